@@ -259,12 +259,12 @@ try_ears() {
     echo "ears: $audited maps audited, with $clashes clashes and $open open sides; $asked pairs as the program says"
 }
 
-# Each map turned to UDMF: by the library out of its text as by the program; and with coordinates off the grid.
+# Each map turned to UDMF: by the library out of its text as by the program; so with decimals, and with too many of them.
 try_udmf() {
     client udmf heap.o
     built=0 refused=0
     for wad in "${wads[@]}"; do
-        for times in 1 1/2; do
+        for times in 1 1/2 1/100000000; do
             python3 "$top/bench/udmf.py" "$wad" text.wad --times $times || fail "udmf.py of $wad"
             for map in $maps; do
                 line=$(by_program text.wad "$map" --exact)

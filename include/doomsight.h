@@ -144,8 +144,8 @@ enum doomsight_answer_kind {
     DOOMSIGHT_ANSWER_LISTED = 4 /* left open, since the budget ran out; never without a bound */
 };
 
-/* The ray lies on the line of the points with a * x + b * y + c = 0, in map units, and goes in direction (b, -a). It begins on a side
- * of one line, at a face of the first sector, and ends on one of another line, at a face of the second. All its numbers are 0 where
+/* The ray lies on the line of the points with a * x + b * y + c = 0, in units of VERTEXES, and goes in direction (b, -a). It begins on a
+ * side of one line, at a face of the first sector, and ends on one of another line, at a face of the second. All its numbers are 0 where
  * the answer isn't DOOMSIGHT_ANSWER_SIGHT. */
 typedef struct doomsight_answer {
     uint16_t answer; /* an enum doomsight_answer_kind */
@@ -155,7 +155,8 @@ typedef struct doomsight_answer {
     int64_t c;
 } doomsight_answer;
 
-/* What is at fault in a map. `i` and `j` are LINEDEFS records, (x, y) and (to_x, to_y) places in map units; what isn't named is 0. */
+/* What is at fault in a map. `i` and `j` are LINEDEFS records, (x, y) and (to_x, to_y) places in units of VERTEXES; what isn't named is
+ * 0. */
 enum doomsight_flaw_kind {
     DOOMSIGHT_FLAW_CROSS = 8,      /* lines i and j cross; (x, y), and (to_x, to_y) too: where, rounded down */
     DOOMSIGHT_FLAW_TOUCH = 9,      /* an end of one lies within the other, at (x, y), and (to_x, to_y) too */
