@@ -1,5 +1,5 @@
 -- What `grid` answers, told on from the reply to the line that is put.
-use Rattle.std.proofs.Common.{◌≡◌, ◌⊎◌, ◌∙◌, inl, inr, ℕ, Bool, true, false, List, [], ◌++◌, Result, Ok, Err, sym, ap, subst}
+use Rattle.std.proofs.Common.{◌≡◌, ◌⊎◌, inl, inr, ℕ, Bool, true, false, List, [], ◌++◌, Result, Ok, Err, sym, subst}
 use Rattle.std.specs.Prelude.{IfErr, IfOk, string_bytes, ⊤}
 use Rattle.std.specs.Option.{option_map}
 use Rattle.sight_names.specs.declared.names.Method.{Method}

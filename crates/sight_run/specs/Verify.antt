@@ -2,7 +2,6 @@
 use Rattle.std.specs.Prelude.{◌≡◌, ℕ, Bool, List, Option, Result, Ok, Err}
 use Rattle.order_words.specs.declared.order.ReportFile.{ReportFile}
 use Rattle.shelf_io.specs.Shelf.{Files}
-use Rattle.wad_dir.specs.Wad.{WadFile}
 use Rattle.map_answers.specs.declared.sight_status.status.Status.{Status}
 use Rattle.map_answers.specs.SightStatus.Answer.{Answer}
 use Rattle.table_verdicts.specs.declared.verdict.MapVerdict.{MapVerdict}

@@ -1,6 +1,6 @@
 //! Calls that no row reaches.
 
-ghost use Rattle.std.specs.Prelude.{◌≡◌, ◌∷◌, []};
+ghost use Rattle.std.specs.Prelude.{◌≡◌, ◌≢◌, ◌∷◌, []};
 ghost use Rattle.pair_budget.specs.BoardCore.Machine.{pair, start};
 
 use map_lumps::hexen_lumps::to_hexen;
@@ -101,24 +101,49 @@ fn faults_of_one_meaning_have_the_same_words(rt: HostRuntime) -> Result<(), Fail
     Ok(())
 }
 
+// What comes of a portal from the first one's right end to this left one.
+fn behind_one(alloc: Global, left: Pt, right: Pt, last: Pt) -> Result<Passed, Memory>
+    requires first { left ≢ right }
+    requires last { last ≢ right }
+{
+    let mut sleeve = Sleeve::new(alloc);
+    sleeve.begin(left, right)?;
+    sleeve.by_right(last, right)
+}
+
+// What comes of it behind two, of which the second has the first one's left end.
+fn behind_two(alloc: Global, left: Pt, first: Pt, right: Pt, last: Pt) -> Result<Passed, Memory>
+    requires first { left ≢ first }
+    requires second { left ≢ right }
+    requires last { last ≢ right }
+{
+    let mut sleeve = Sleeve::new(alloc);
+    sleeve.begin(left, first)?;
+    match sleeve.by_left(left, right)? {
+        Passed::Open => sleeve.by_right(last, right),
+        Passed::Stuck(evidence) => Ok(Passed::Stuck(evidence)),
+    }
+}
+
 // What comes of a portal whose left end has the right end of the one before between it and the left end of that one.
 fn between(alloc: Global) -> Result<Passed, Memory> {
-    let right = Pt { x: 1, y: 1 };
-    let mut sleeve = Sleeve::new(alloc);
-    sleeve.begin(Pt { x: 0, y: 1 }, right)?;
-    sleeve.by_right(Pt { x: 2, y: 1 }, right)
+    behind_one(
+        alloc,
+        Pt { x: 0, y: 1 },
+        Pt { x: 1, y: 1 },
+        Pt { x: 2, y: 1 },
+    )
 }
 
 // And of one by which the segment between the left ends crosses the one between the right ends.
 fn crossed(alloc: Global) -> Result<Passed, Memory> {
-    let left = Pt { x: 0, y: 0 };
-    let right = Pt { x: 2, y: 0 };
-    let mut sleeve = Sleeve::new(alloc);
-    sleeve.begin(left, Pt { x: 0, y: 2 })?;
-    match sleeve.by_left(left, right)? {
-        Passed::Open => sleeve.by_right(Pt { x: 2, y: 2 }, right),
-        Passed::Stuck(evidence) => Ok(Passed::Stuck(evidence)),
-    }
+    behind_two(
+        alloc,
+        Pt { x: 0, y: 0 },
+        Pt { x: 0, y: 2 },
+        Pt { x: 2, y: 0 },
+        Pt { x: 2, y: 2 },
+    )
 }
 
 // Whether these ends, and no others, show that the portals are stuck.

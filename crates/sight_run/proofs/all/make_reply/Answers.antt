@@ -3,8 +3,6 @@ use Rattle.wad_dir.specs.Wad.{file_of}
 use Rattle.wad_dir.specs.AllMaps.All.{HasInOrder}
 use Rattle.wad_dir.specs.AllMaps.Maps.{maps_of}
 use Rattle.row_spelling.specs.declared.Spelling.{Spelling}
-use Rattle.map_answers.specs.declared.sight_status.status.Status.{Status}
-use Rattle.map_answers.specs.SightStatus.Answer.{Gives}
 use Rattle.whole_wad.specs.Whole.{MakesWhole}
 use Rattle.sight_run.specs.Reply.{replied}
 use Rattle.sight_run.proofs.OneAll.{the_unmade, the_whole, unmade_so}

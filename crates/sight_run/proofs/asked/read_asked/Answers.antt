@@ -1,4 +1,4 @@
-use Rattle.std.proofs.Common.{◌≡◌, ◌∙◌, ℕ, List, Ok, Err, Vec, ap, subst, sym}
+use Rattle.std.proofs.Common.{◌∙◌, ℕ, List, Err, Vec, ap, subst, sym}
 use Rattle.std.specs.declared.alloc.Global.{Global}
 use Rattle.std.proofs.lemmas.Result.{err_from_is_err_and}
 use Rattle.wad_dir.specs.declared.parts.Wad.{Wad}

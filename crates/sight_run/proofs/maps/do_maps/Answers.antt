@@ -4,7 +4,7 @@ use Rattle.sight_run.proofs.Whole.{gives_unread}
 use Rattle.sight_run.specs.declared.asked.ReadMaps.{ReadMaps}
 use Rattle.sight_run.specs.Asked.{AskedMaps, asked_in}
 use Rattle.sight_run.specs.Maps.{MapsListed}
-use Rattle.sight_run.specs.Reply.{asked_seen, reply_seen, replied}
+use Rattle.sight_run.specs.Reply.{asked_seen, replied}
 use Rattle.sight_run.proofs.maps.do_maps.Goals as goal
 
 pub returns-in_err-asked-clause-told : goal.returns-in_err-asked-clause-told

@@ -1,6 +1,3 @@
-use Rattle.std.proofs.Common.{ℕ, List, Option, sym, subst}
-use Rattle.map_answers.specs.Views.{found}
-use Rattle.sight_run.proofs.Reporting.{IsReported, reported}
 use Rattle.sight_run.proofs.on_map.answer_on.Goals as goal
 
 pub returns-in-Draw-clause-called : goal.returns-in-Draw-clause-called

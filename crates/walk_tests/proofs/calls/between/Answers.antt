@@ -1,8 +1,11 @@
--- The right end is that of the one portal that was begun with.
-use Rattle.std.proofs.Common.{List, refl, sym, subst}
-use Rattle.sight_names.specs.Splitting.{EndPoints}
-use Rattle.stab_hull.specs.Sleeves.{HasLastRight}
+-- Points with other first coordinates are others.
+use Rattle.std.proofs.Common.{ap, arith}
+use Rattle.std.proofs.lemmas.Int.{ints}
+use Rattle.sight_names.specs.declared.names.Pt.{Pt}
 use Rattle.walk_tests.proofs.calls.between.Goals as goal
 
-pub by_right-requires-clause-last : goal.by_right-requires-clause-last
-by_right-requires-clause-last c = subst (λ (es : List EndPoints). HasLastRight es _) (sym c.in_ok-begin.ensures.ok) (_, refl, refl)
+pub behind_one-requires : goal.behind_one-requires
+behind_one-requires c = record {
+  first = λ e. let x = ap (λ (p : Pt). p.x) e in omega (arith, ints, x);
+  last = λ e. let x = ap (λ (p : Pt). p.x) e in omega (arith, ints, x);
+}

@@ -1,13 +1,11 @@
-use Rattle.std.proofs.Common.{◌≡◌, ℕ, List, Result, Ok, sym, ap, ◌∙◌}
-use Rattle.sight_names.specs.Map.{Map, map_of}
-use Rattle.map_answers.specs.declared.sight_status.status.Status.{Status}
+use Rattle.std.proofs.Common.{◌≡◌, Ok, sym, ap, ◌∙◌}
+use Rattle.sight_names.specs.Map.{map_of}
 use Rattle.map_answers.specs.Input.{map_named}
 use Rattle.wad_dir.specs.AllMaps.Names.{word_of}
 use Rattle.wad_dir.specs.Wad.{file_of, names_of}
 use Rattle.whole_wad.specs.Rejects.{reject_named}
-use Rattle.table_verdicts.specs.declared.map_list.entry.ListedFormat.{ListedFormat}
 use Rattle.table_verdicts.specs.declared.map_list.entry.Said.TheVariants as said
-use Rattle.table_verdicts.specs.MapList.Entry.{format_named, said_of, sizes_of}
+use Rattle.table_verdicts.specs.MapList.Entry.{format_named, said_of}
 use Rattle.table_verdicts.proofs.map_list.named.entry_of.Goals as goal
 
 pub returns-in_ok-sizes-in-Ok-clause-is : goal.returns-in_ok-sizes-in-Ok-clause-is

@@ -1,4 +1,4 @@
-use Rattle.std.proofs.Common.{◌≡◌, ◌∙◌, ℕ, Option, ap, length}
+use Rattle.std.proofs.Common.{◌≡◌, ◌∙◌, ℕ, ap, length}
 use Rattle.sight_names.specs.Plan.{PlanParts}
 use Rattle.whole_wad.specs.Rejects.{table_len}
 use Rattle.table_verdicts.specs.MapList.Entry.{set_bits}
