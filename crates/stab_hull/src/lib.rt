@@ -18,7 +18,7 @@ pub use sleeve::Sleeve;
 pub use track::Track;
 
 /// Whether a line splits the ends and those of one more portal.
-#[derive(Clone, Copy, PartialEq, Eq)]
+#[derive(Clone, Copy)]
 pub enum Passed {
     /// One does.
     Open,
