@@ -1,5 +1,5 @@
 -- A cone of ends has a line that cuts between them.
-use Rattle.std.proofs.Common.{◌≡◌, ◌≤◌, ◌^◌, ◌*◌, ℤ, pos, negsuc, zero, suc, ◌+ℤ◌, ◌-ℤ◌, ◌*ℤ◌, nat_abs, arith, ◌<ℤ◌, ◌⊎◌, inl, inr, refl}
+use Rattle.std.proofs.Common.{◌≡◌, ◌≤◌, ◌^◌, ℤ, pos, negsuc, zero, suc, ◌+ℤ◌, ◌-ℤ◌, ◌*ℤ◌, nat_abs, arith, ◌<ℤ◌, ◌⊎◌, inl, inr, refl}
 use Rattle.std.proofs.lemmas.Int.{ints}
 use Rattle.sight_names.specs.declared.names.Pt.{Pt}
 use Rattle.sight_names.specs.Point.{point_of, value_at}

@@ -1,4 +1,5 @@
 pub mod StepLemmas
+pub mod Keeping
 pub mod Between
 pub mod Chains
 pub mod Hiding

@@ -67,6 +67,13 @@ next_of ks rest d = get_or ks (rest - 1) d
 pub next_is : (ks : List Kept) (rest : ℕ) (k : Kept) → IsNext ks rest k → IsNext ks rest (next_of ks rest k)
 next_is ks rest k is = ap (λ (d : Kept). get_or ks (rest - 1) d) is
 
+pub next_within : (ks : List Kept) (rest top : ℕ) → LooksBack (kept_ends ks) rest top → 0 < rest → rest - 1 < length ks
+next_within ks rest top h some =
+    let e = kept_length ks in
+    let below = h.below in
+    let within = h.within in
+    omega (arith, e, below, within, some)
+
 module _ (ks : List Kept) (rest top : ℕ) (k : Kept) where
   next_kept : LooksBack (kept_ends ks) rest top → 0 < rest → IsNext ks rest k → slice_get ks (rest - 1) ≡ Some k
   next_kept h some is =

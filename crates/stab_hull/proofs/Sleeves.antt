@@ -2,7 +2,7 @@
 use Rattle.std.proofs.Common.{◌≡◌, ℕ, ◌+◌, ◌-◌, ◌<◌, ◌≤◌, List, [], ◌∷◌, ◌++◌, length, take, Some, None, Result, Ok, Err, get_or, refl, sym, ap, ◌∙◌, arith, inl, inr, subst, length-take-le}
 use Rattle.std.specs.Prelude.{map, option_map, slice_get}
 use Rattle.std.proofs.lemmas.Int.{ints}
-use Rattle.std.proofs.lemmas.List.{length-map, take-map, take_all, take-take, take-append-le}
+use Rattle.std.proofs.lemmas.List.{length-map, take-map, take_all, take-take}
 use Rattle.std.proofs.lemmas.Option.{same_Some, slice_get-get_or, slice_get-map, slice_get_within}
 use Rattle.sight_names.specs.declared.limits.TheConstants.{RIGHT_END}
 use Rattle.sight_names.specs.declared.names.Memory.{Memory}
@@ -29,6 +29,7 @@ use Rattle.stab_hull.specs.Portals.{portal_of, portals_of, with_ends, IsConeOf}
 use Rattle.stab_hull.specs.Sleeves.{IsSleeve, IsCoveredLeft, IsCoveredRight, HasLastLeft, HasLastRight, TellsRight, TellsLeft, GoesBy, GoesOn, IsTold, told_of, frame_of, note_of, frames_of, tells_of}
 use Rattle.stab_hull.specs.Stacks.{CoversLeft, CoversRight, KeepsFirst, IsConeOfEnds, IsTopCone, IsHullOf}
 use Rattle.stab_hull.specs.Turning.{IsRightTurn, IsLeftTurn}
+use Rattle.stab_hull.proofs.Keeping.{kept_push}
 use Rattle.stab_hull.proofs.Barring.{right_barred, left_barred}
 use Rattle.stab_hull.proofs.HistoryLemmas.{as_many, hull_same, keeps_less, last_frame, pop_history, portals_next, push_history, stacks_moved}
 use Rattle.stab_hull.proofs.HullLemmas.{cone_of, hull_first, hull_more, cone_wider}
@@ -124,9 +125,6 @@ goes_open fs gs p f ls rs cs h u e g = record {
   sleeve = subst (λ (xs : List Frame). IsSleeve xs ls rs cs) (sym g) (record { history = push_history fs f ls rs cs h (frame_counts p f ls rs cs e) (subst (λ q. IsHullOf (portals_of fs ++ q ∷ []) ls rs cs) (sym (ap portal_of e)) u); exact = exact_push fs f ls rs cs (frame_counts p f ls rs cs e) });
   told = (ap portals_of g ∙ portals_next fs f ∙ ap (λ q. portals_of fs ++ q ∷ []) (ap portal_of e), hull_splits (portals_of fs ++ p ∷ []) ls rs cs u);
 }
-
-kept_push : {X : Type 0} (xs : List X) (x : X) → KeepsFirst (length xs) xs (xs ++ x ∷ [])
-kept_push xs x = (take-append-le (length xs) xs (x ∷ []) (omega arith), let k = length_pushed xs x in omega (arith, k))
 
 -- the stacks may grow
 pub grown_history : (fs : List Frame) (f : Frame) (ls rs ls' rs' : List EndAt) (cs cs' : List Cone) → IsSleeve fs ls rs cs → slice_get fs (length fs - 1) ≡ Some f → KeepsFirst (length ls) ls ls' → KeepsFirst (length rs) rs rs' → KeepsFirst (length cs) cs cs' → IsHistory fs ls' rs' cs'

@@ -1,5 +1,5 @@
 -- What one more end does to the cone of other ends.
-use Rattle.std.proofs.Common.{◌≡◌, ℕ, zero, suc, ◌+◌, ◌-◌, ◌<◌, ◌≤◌, List, [], ◌∷◌, ◌++◌, length, Option, Some, None, Result, Ok, Err, refl, sym, ap, arith, ◌∙◌, ◌⊎◌, inl, inr, subst, subst₂, All, get_or, below_more, pos}
+use Rattle.std.proofs.Common.{◌≡◌, ℕ, zero, suc, ◌+◌, ◌-◌, ◌<◌, ◌≤◌, List, [], ◌∷◌, ◌++◌, length, Option, Some, None, Result, Ok, Err, refl, sym, ap, arith, ◌∙◌, ◌⊎◌, inl, inr, subst, subst₂, All, get_or, below_more}
 use Rattle.std.specs.Prelude.{slice_get, MatchOption, IfOk}
 use Rattle.std.proofs.lemmas.Option.{slice_get-get_or, slice_get_within}
 use Rattle.std.proofs.lemmas.List.Elements.{All-nil, All-cons}

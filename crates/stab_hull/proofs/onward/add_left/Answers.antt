@@ -17,6 +17,12 @@ use Rattle.stab_hull.proofs.onward.add_left.Goals as goal
 pub frame_to_left-frame-requires : goal.frame_to_left-frame-requires
 frame_to_left-frame-requires g c = record { last = subst (λ xs. HasLastRight (portals_of (frames_of xs)) c.args.right) (sym (c.as_slice.ensures.value ∙ c.reserve.ensures.items)) c.requires.last }
 
+pub stack_left-requires-clause-again : goal.stack_left-requires-clause-again
+stack_left-requires-clause-again g c = refl
+
+pub stack_left-requires-clause-steps : goal.stack_left-requires-clause-steps
+stack_left-requires-clause-steps g c = c.as_slice-rights.ensures.steps
+
 pub stack_left-requires-clause-moves : goal.stack_left-requires-clause-moves
 stack_left-requires-clause-moves g c = subst (λ (xs : List EndAt). MovesLeft xs c.args.hull.now.cones.items c.args.new) (sym c.as_slice-rights.ensures.ends) (subst (TakesLeft c.args.hull.now.lefts c.args.hull.now.rights c.args.hull.now.cones.items c.args.new) c.if-moves.true c.requires.takes)
 

@@ -17,6 +17,12 @@ use Rattle.stab_hull.proofs.onward.add_right.Goals as goal
 pub frame_to_right-frame-requires : goal.frame_to_right-frame-requires
 frame_to_right-frame-requires g c = record { last = subst (λ xs. HasLastLeft (portals_of (frames_of xs)) c.args.left) (sym (c.as_slice.ensures.value ∙ c.reserve.ensures.items)) c.requires.last }
 
+pub stack_right-requires-clause-again : goal.stack_right-requires-clause-again
+stack_right-requires-clause-again g c = refl
+
+pub stack_right-requires-clause-steps : goal.stack_right-requires-clause-steps
+stack_right-requires-clause-steps g c = c.as_slice-lefts.ensures.steps
+
 pub stack_right-requires-clause-moves : goal.stack_right-requires-clause-moves
 stack_right-requires-clause-moves g c = subst (λ (xs : List EndAt). MovesRight xs c.args.hull.now.cones.items c.args.new) (sym c.as_slice-lefts.ensures.ends) (subst (TakesRight c.args.hull.now.lefts c.args.hull.now.rights c.args.hull.now.cones.items c.args.new) c.if-moves.true c.requires.takes)
 

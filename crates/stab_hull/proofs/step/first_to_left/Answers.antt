@@ -5,7 +5,7 @@ use Rattle.geom_exact.specs.declared.extreme_lines.cone.Cone.TheVariants.{Open}
 use Rattle.stab_hull.specs.Chains.{kept_ends}
 use Rattle.stab_hull.proofs.StepLemmas.{From, left_start}
 use Rattle.stab_hull.proofs.OneLine.{beyond_second_left, level_left}
-use Rattle.stab_hull.proofs.Looking.{kept_from, look_start, next_of, next_is, one_next, next_at, step_fits, step_falls}
+use Rattle.stab_hull.proofs.Looking.{kept_from, look_start, next_of, next_is, next_within, one_next, next_at, step_fits, step_falls}
 use Rattle.stab_hull.proofs.Scanning.{IsSlopeOf, IsLevelAt, level_at, kept_level, level_on, turn_by, apart_fits, left_passed, left_looks, left_looked}
 use Rattle.stab_hull.proofs.step.first_to_left.Goals as goal
 use Rattle.stab_hull.proofs.step.first_to_left.Goals.{then-level-bound+then-widen_first, then-level-bound+else-widen_first, else-level-bound}
@@ -19,6 +19,18 @@ loop-rest-init c = record {
   look = look_start c.args.rights.now;
   part = λ lefts h. left_start lefts (kept_ends c.args.rights.now) c.args.left (From (length c.args.rights.now)) (Open c.args.wedge.now) (kept_from c.args.rights.now) h;
 }
+
+pub overflow_sub-at : goal.overflow_sub-at
+overflow_sub-at c = let t = c.loop-rest-test.true in omega (arith, t)
+
+pub bounds-rights-at : goal.bounds-rights-at
+bounds-rights-at c = next_within c.args.rights.now c.loop-rest.rest c.loop-rest.invariant.top c.loop-rest.invariant.look c.loop-rest-test.true
+
+pub bounds-again-at : goal.bounds-again-at
+bounds-again-at c = rw c.requires.again (next_within c.args.rights.now c.loop-rest.rest c.loop-rest.invariant.top c.loop-rest.invariant.look c.loop-rest-test.true)
+
+pub bounds-again-at-then-level-bound : goal.bounds-again-at-then-level-bound
+bounds-again-at-then-level-bound c = rw c.requires.again (next_within c.args.rights.now c.loop-rest.rest c.loop-rest.invariant.top c.loop-rest.invariant.look c.loop-rest-test.true)
 
 pub widen_first-requires-clause-within : goal.widen_first-requires-clause-within
 widen_first-requires-clause-within c = rw (sym c.requires.again) at (beyond_second_left c.requires.cone.0 (kept_ends c.args.rights.now) c.args.left (next_of c.args.rights.now c.loop-rest.rest c.index-again-at.result).end c.args.wedge.now c.loop-rest.wide (c.loop-rest.rest - 1) c.requires.cone.1 (next_at c.args.rights.now c.loop-rest.rest c.loop-rest.invariant.top (next_of c.args.rights.now c.loop-rest.rest c.index-again-at.result) c.loop-rest.invariant.look c.loop-rest-test.true (next_is c.args.rights.now c.loop-rest.rest c.index-again-at.result (rw c.requires.again at c.index-again-at.is))) c.requires.beyond c.loop-rest.invariant.second)

@@ -13,6 +13,9 @@ use Rattle.stab_hull.proofs.step.first_to_right.Goals.{then-widen_first, else-wi
 pub loop-i-init : goal.loop-i-init
 loop-i-init c = record { second = refl; level = held c.value-value.result c.value-value.ensures.bound ∙ c.value-value.ensures.value; small = held_small c.value-value.result c.value-value.ensures.bound; part = λ rights h. right_start (kept_ends c.args.lefts.now) rights c.args.right (Before 0) (Open c.args.wedge.now) (λ k l. absurd (omega (arith, l))) h }
 
+pub overflow_sub-turn : goal.overflow_sub-turn
+overflow_sub-turn c = let s = c.loop-i.invariant.small in let b = held_small c.value.result c.value.ensures.bound in omega (arith, ints, s, b)
+
 pub widen_first-requires : goal.widen_first-requires
 widen_first-requires c = record {
   within = beyond_second_right (kept_ends c.args.lefts.now) c.requires.cone.0 c.args.right (get_or c.args.lefts.now c.loop-i.i c.index-lefts-i.result).end c.args.wedge.now c.loop-i.wide c.loop-i.i c.requires.cone.1 (kept_at c.args.lefts.now c.loop-i.i c.index-lefts-i.result c.loop-i-test.true) c.requires.beyond c.loop-i.invariant.second;

@@ -13,6 +13,9 @@ use Rattle.stab_hull.proofs.step.second_to_left.Goals.{then-widen_second, else-w
 pub loop-j-init : goal.loop-j-init
 loop-j-init c = record { first = refl; level = held c.value-value.result c.value-value.ensures.bound ∙ c.value-value.ensures.value; small = held_small c.value-value.result c.value-value.ensures.bound; part = λ lefts h. left_start lefts (kept_ends c.args.rights.now) c.args.left (Before 0) (Open c.args.wedge.now) (λ k l. absurd (omega (arith, l))) h }
 
+pub overflow_sub-turn : goal.overflow_sub-turn
+overflow_sub-turn c = let s = c.loop-j.invariant.small in let b = held_small c.value.result c.value.ensures.bound in omega (arith, ints, s, b)
+
 pub widen_second-requires : goal.widen_second-requires
 widen_second-requires c = record {
   within = beyond_first_left c.requires.cone.0 (kept_ends c.args.rights.now) c.args.left (get_or c.args.rights.now c.loop-j.j c.index-rights-j.result).end c.args.wedge.now c.loop-j.wide c.loop-j.j c.requires.cone.1 (kept_at c.args.rights.now c.loop-j.j c.index-rights-j.result c.loop-j-test.true) c.requires.beyond c.loop-j.invariant.first;

@@ -5,7 +5,7 @@ use Rattle.geom_exact.specs.declared.extreme_lines.cone.Cone.TheVariants.{Open}
 use Rattle.stab_hull.specs.Chains.{kept_ends}
 use Rattle.stab_hull.proofs.StepLemmas.{From, right_start}
 use Rattle.stab_hull.proofs.OneLine.{beyond_first_right, level_right}
-use Rattle.stab_hull.proofs.Looking.{kept_from, look_start, next_of, next_is, one_next, next_at, step_fits, step_falls}
+use Rattle.stab_hull.proofs.Looking.{kept_from, look_start, next_of, next_is, next_within, one_next, next_at, step_fits, step_falls}
 use Rattle.stab_hull.proofs.Scanning.{IsSlopeOf, IsLevelAt, level_at, kept_level, level_on, turn_by, apart_fits, right_passed, right_looks, right_looked}
 use Rattle.stab_hull.proofs.step.second_to_right.Goals as goal
 use Rattle.stab_hull.proofs.step.second_to_right.Goals.{then-level-bound+then-widen_second, then-level-bound+else-widen_second, else-level-bound}
@@ -19,6 +19,18 @@ loop-rest-init c = record {
   look = look_start c.args.lefts.now;
   part = λ rights h. right_start (kept_ends c.args.lefts.now) rights c.args.right (From (length c.args.lefts.now)) (Open c.args.wedge.now) (kept_from c.args.lefts.now) h;
 }
+
+pub overflow_sub-at : goal.overflow_sub-at
+overflow_sub-at c = let t = c.loop-rest-test.true in omega (arith, t)
+
+pub bounds-lefts-at : goal.bounds-lefts-at
+bounds-lefts-at c = next_within c.args.lefts.now c.loop-rest.rest c.loop-rest.invariant.top c.loop-rest.invariant.look c.loop-rest-test.true
+
+pub bounds-again-at : goal.bounds-again-at
+bounds-again-at c = rw c.requires.again (next_within c.args.lefts.now c.loop-rest.rest c.loop-rest.invariant.top c.loop-rest.invariant.look c.loop-rest-test.true)
+
+pub bounds-again-at-then-level-bound : goal.bounds-again-at-then-level-bound
+bounds-again-at-then-level-bound c = rw c.requires.again (next_within c.args.lefts.now c.loop-rest.rest c.loop-rest.invariant.top c.loop-rest.invariant.look c.loop-rest-test.true)
 
 pub widen_second-requires-clause-within : goal.widen_second-requires-clause-within
 widen_second-requires-clause-within c = rw (sym c.requires.again) at (beyond_first_right (kept_ends c.args.lefts.now) c.requires.cone.0 c.args.right (next_of c.args.lefts.now c.loop-rest.rest c.index-again-at.result).end c.args.wedge.now c.loop-rest.wide (c.loop-rest.rest - 1) c.requires.cone.1 (next_at c.args.lefts.now c.loop-rest.rest c.loop-rest.invariant.top (next_of c.args.lefts.now c.loop-rest.rest c.index-again-at.result) c.loop-rest.invariant.look c.loop-rest-test.true (next_is c.args.lefts.now c.loop-rest.rest c.index-again-at.result (rw c.requires.again at c.index-again-at.is))) c.requires.beyond c.loop-rest.invariant.first)
