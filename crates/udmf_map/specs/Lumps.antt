@@ -66,3 +66,10 @@ lumps_of_text text = elim (text_read text) [
   | Ok r ↦ lumps_or (records_fault r) (lumps_of r)
   | Err fault ↦ Err fault
 ]
+
+-- the decimal places of the unit in which the points of a text are told, 0 where it has a fault
+abbrev pub places_told : List ℕ → ℕ
+places_told text = elim (text_read text) [
+  | Ok r ↦ places_of r.vertices r.lines
+  | Err fault ↦ 0
+]

@@ -13,7 +13,7 @@ mod values;
 
 pub use blocks::{Block, Linedef, Vertex};
 pub use faults::TextFault;
-pub use lumps::{FourLumps, lumps_of_text};
+pub use lumps::{FourLumps, lumps_of_text, text_places};
 pub use places::{Place, place_of};
 pub use reading::{Namespace, Records, read_text};
 pub use values::Coordinate;

@@ -2,7 +2,7 @@
 
 ghost use Rattle.std.specs.Prelude.{◌≡◌, ◌*◌, IfOk, flat_map, replicate};
 ghost use Rattle.udmf_map.specs.Reading.{Answers, read_of};
-ghost use Rattle.udmf_map.specs.Lumps.{number as number_lem, side_number as side_number_lem, flags as flags_lem, linedef_bytes, sidedef_bytes, placed as placed_lem, vertex_bytes, lump_bytes, lumps_of as lumps_of_lem, lumps_of_text as lumps_of_text_lem};
+ghost use Rattle.udmf_map.specs.Lumps.{number as number_lem, side_number as side_number_lem, flags as flags_lem, linedef_bytes, sidedef_bytes, placed as placed_lem, vertex_bytes, lump_bytes, lumps_of as lumps_of_lem, lumps_of_text as lumps_of_text_lem, places_told};
 
 use crate::blocks::{Linedef, Vertex};
 use crate::checks::records_fault;
@@ -10,6 +10,7 @@ use crate::faults::TextFault;
 use crate::grid::{places_of, units};
 use crate::reading::{Records, read_text};
 use crate::values::Coordinate;
+use sight_names::Memory;
 use std::alloc::{AllocError, Global};
 
 /// The bytes of LINEDEFS, SIDEDEFS, VERTEXES and SECTORS.
@@ -177,4 +178,16 @@ pub fn lumps_of_text(alloc: Global, text: &[u8]) -> Result<FourLumps, TextFault>
         return Err(fault);
     }
     Ok(lumps_of(alloc, &read)?)
+}
+
+/// The decimal places of the unit in which the points of a text are told: a point's numbers are so many of 10^-k, for k
+/// places. None where the text has a fault.
+pub fn text_places(alloc: Global, text: &[u8]) -> Result<u8, Memory>
+    ensures { IfOk result (λ places. places ≡ places_told text.now) }
+{
+    match read_text(alloc, text) {
+        Ok(read) => Ok(places_of(read.vertices.as_slice(), read.lines.as_slice())),
+        Err(TextFault::Memory(ref memory)) => Err(*memory),
+        Err(_) => Ok(0),
+    }
 }
