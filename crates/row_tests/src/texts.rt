@@ -36,6 +36,12 @@ linedef{v1=2;v2=4;sidefront=5;}linedef{v1=4;v2=5;sidefront=6;}linedef{v1=5;v2=3;
 sidedef{sector=0;}sidedef{sector=0;}sidedef{sector=0;}sidedef{sector=1;}\
 sidedef{sector=0;}sidedef{sector=1;}sidedef{sector=1;}sidedef{sector=1;}sector{}sector{}\n";
 
+// One room whose points have thousandths, hundredths and none.
+const THOUSANDTHS: &str = "namespace=\"doom\";\
+vertex{x=0;y=0;}vertex{x=0;y=64.125;}vertex{x=64.5;y=0.250;}\
+linedef{v1=0;v2=1;sidefront=0;}linedef{v1=1;v2=2;sidefront=1;}linedef{v1=2;v2=0;sidefront=2;}\
+sidedef{sector=0;}sidedef{sector=0;}sidedef{sector=0;}sector{}\n";
+
 // Two rooms that reach to the farthest points, in the last place that is read, with a line between them that leans.
 const FARTHEST: &str = "namespace=\"doom\";\
 vertex{x=-3.3554432;y=-33554432e-7;}vertex{x=-3.3554432;y=3.3554432;}vertex{x=1e-7;y=3.3554432;}\
@@ -330,7 +336,6 @@ fn a_text_is_read_as_the_map_that_it_spells(rt: HostRuntime) -> Result<(), Fail>
         "build a MAP02 b --cert c | 0 | built MAP02 sectors 2 set 0 clear 3 listed 0 | b=PAIR +6:MAP02 +7:TEXTMAP =TEXT +8:REJECT =00 +9:ZNODES *3 +10:ENDMAP\n| check b MAP02 c | 0 | yes sectors 2 set 0 clear 3 listed 0",
         "all a b --only MAP02 --report r | 0 | all maps 1 built 1 refused 0 | b=PAIR +6:MAP02 +7:TEXTMAP =TEXT +8:REJECT =00 +9:ZNODES *3 +10:ENDMAP",
         "verify a --only MAP02 | 1 | verify maps 1 right 0 wrong 0 short 1 refused 0",
-        "maps a --only MAP02 --report r | 0 | maps 1 whole 0 short 1 refused 0 | r=#4d415030322075646d66206c696e6573203720706f696e7473203620736563746f727320322072656a6563742030206f6620310a",
         "zero a TEXTMAP b | 7 | refused: no map: missing LINEDEFS | b=",
         "all a b --only ENDMAP | 7 | refused: no map: missing LINEDEFS | b=",
     ] {
@@ -368,6 +373,47 @@ fn a_text_with_decimals_is_the_map_in_their_unit(rt: HostRuntime) -> Result<(), 
         ),
     ] {
         hold_text(&rt, rt.alloc(), text, row)?;
+    }
+    Ok(())
+}
+
+#[test]
+fn a_list_tells_the_unit_of_decimals(rt: HostRuntime) -> Result<(), Fail> {
+    let alloc = rt.alloc();
+    for (text, words, objects) in [
+        (
+            PAIR,
+            "r=#4d415030322075646d66206c696e6573203720706f696e7473203620736563746f727320322072656a6563742030206f6620310a",
+            "r=#7b226d6170223a224d41503032222c22666f726d6174223a2275646d66222c226c696e6573223a372c22706f696e7473223a362c22736563746f7273223a322c2272656a656374223a302c226f66223a317d0a",
+        ),
+        // a vertex that has halves is of no line
+        (
+            SQUARE,
+            "r=#4d415030322075646d66206c696e6573203420706f696e7473203420736563746f727320312072656a6563742030206f6620310a",
+            "r=#7b226d6170223a224d41503032222c22666f726d6174223a2275646d66222c226c696e6573223a342c22706f696e7473223a342c22736563746f7273223a312c2272656a656374223a302c226f66223a317d0a",
+        ),
+        (
+            TENTHS,
+            "r=#4d415030322075646d6620756e697420302e31206c696e6573203720706f696e7473203620736563746f727320322072656a6563742030206f6620310a",
+            "r=#7b226d6170223a224d41503032222c22666f726d6174223a2275646d66222c22756e6974223a22302e31222c226c696e6573223a372c22706f696e7473223a362c22736563746f7273223a322c2272656a656374223a302c226f66223a317d0a",
+        ),
+        (
+            THOUSANDTHS,
+            "r=#4d415030322075646d6620756e697420302e303031206c696e6573203320706f696e7473203320736563746f727320312072656a6563742030206f6620310a",
+            "r=#7b226d6170223a224d41503032222c22666f726d6174223a2275646d66222c22756e6974223a22302e303031222c226c696e6573223a332c22706f696e7473223a332c22736563746f7273223a312c2272656a656374223a302c226f66223a317d0a",
+        ),
+        (
+            FARTHEST,
+            "r=#4d415030322075646d6620756e697420302e30303030303031206c696e6573203720706f696e7473203620736563746f727320322072656a6563742030206f6620310a",
+            "r=#7b226d6170223a224d41503032222c22666f726d6174223a2275646d66222c22756e6974223a22302e30303030303031222c226c696e6573223a372c22706f696e7473223a362c22736563746f7273223a322c2272656a656374223a302c226f66223a317d0a",
+        ),
+    ] {
+        let list = "maps a --only MAP02 --report r";
+        let said = "0 | maps 1 whole 0 short 1 refused 0";
+        let row = format!(in alloc; "{list} | {said} | {words}")?;
+        hold_one(&rt, alloc, text, &row)?;
+        let row = format!(in alloc; "{list} --json | {said} | {objects}")?;
+        hold_one(&rt, alloc, text, &row)?;
     }
     Ok(())
 }

@@ -7,6 +7,7 @@ mod listing;
 mod named;
 mod sizes;
 mod tally;
+mod unit;
 
 pub use entry::{ListedFormat, MapEntry, MapSizes, Said};
 pub use listing::{MapList, list_maps};

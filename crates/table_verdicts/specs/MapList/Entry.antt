@@ -10,7 +10,8 @@ use Rattle.wad_dir.specs.AllMaps.Names.{word_of}
 use Rattle.wad_dir.specs.Map.{spot_of}
 use Rattle.wad_dir.specs.Wad.{WadFile, names_of}
 use Rattle.map_answers.specs.declared.sight_status.status.Status.{Status}
-use Rattle.map_answers.specs.Input.{map_named}
+use Rattle.udmf_map.specs.Lumps.{places_told}
+use Rattle.map_answers.specs.Input.{lump_at, map_named}
 use Rattle.whole_wad.specs.Rejects.{reject_named, table_len}
 use Rattle.table_verdicts.specs.declared.map_list.entry.ListedFormat.{ListedFormat}
 use Rattle.table_verdicts.specs.declared.map_list.entry.ListedFormat.TheVariants.{Doom, Hexen, Udmf}
@@ -19,15 +20,15 @@ use Rattle.table_verdicts.specs.declared.map_list.entry.Said.{Said}
 use Rattle.table_verdicts.specs.declared.map_list.entry.Said.TheVariants as said
 use Rattle.table_verdicts.specs.declared.map_list.entry.MapEntry.{MapEntry}
 
--- how the format of a map is listed
-abbrev pub listed_format : MapFormat → ListedFormat
-listed_format formats.Doom = Doom
-listed_format formats.Hexen = Hexen
-listed_format formats.Text = Udmf
+-- how the format of a map is listed whose LINEDEFS, or whose text, has these bytes
+abbrev pub listed_format : MapFormat → List ℕ → ListedFormat
+listed_format formats.Doom linedefs = Doom
+listed_format formats.Hexen linedefs = Hexen
+listed_format formats.Text text = Udmf (places_told text)
 
 -- the format of the map of a name, Doom's where there is none
-abbrev pub format_named : List (List ℕ) → List ℕ → ListedFormat
-format_named names name = elim (spot_of names name) [ Ok spot ↦ listed_format spot.format | Err fault ↦ Doom ]
+abbrev pub format_named : WadFile → List ℕ → ListedFormat
+format_named w name = elim (spot_of (names_of w) name) [ Ok spot ↦ listed_format spot.format (lump_at w spot.linedefs) | Err fault ↦ Doom ]
 
 -- the bit of the pair is set in the bytes
 abbrev pub is_set : ℕ → List ℕ → ℕ → ℕ → Bool
@@ -56,7 +57,7 @@ said_of (Err refusal) format reject = said.Refused refusal
 
 -- .. of the map of a name, by the usual limits or the larger ones, and its own REJECT
 abbrev pub entry_named : WadFile → Bool → List ℕ → MapEntry
-entry_named w large name = record { name = name; said = said_of (map_named large w (word_of name)) (format_named (names_of w) (word_of name)) (reject_named w (word_of name)) }
+entry_named w large name = record { name = name; said = said_of (map_named large w (word_of name)) (format_named w (word_of name)) (reject_named w (word_of name)) }
 
 -- .. of each map of these names
 abbrev pub entries_of : WadFile → Bool → List (List ℕ) → List MapEntry

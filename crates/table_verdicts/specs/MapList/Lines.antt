@@ -1,5 +1,5 @@
 -- The line of each map.
-use Rattle.std.specs.Prelude.{ℕ, List, ◌++◌, Option, Some, None, codes}
+use Rattle.std.specs.Prelude.{ℕ, ◌-◌, ◌==◌, List, ◌++◌, replicate, Option, Some, None, codes, if◌then◌else◌}
 use Rattle.std.specs.Fmt.{decimal}
 use Rattle.std.specs.List.{flat_map}
 use Rattle.wad_dir.specs.AllMaps.Names.{word_of}
@@ -15,10 +15,18 @@ use Rattle.table_verdicts.specs.declared.map_list.entry.Said.{Said}
 use Rattle.table_verdicts.specs.declared.map_list.entry.Said.TheVariants as said
 use Rattle.table_verdicts.specs.declared.map_list.entry.MapEntry.{MapEntry}
 
+-- the last of so many decimal places, as a number: 0.1 for one, 0.001 for three
+abbrev pub unit_of : ℕ → List ℕ
+unit_of places = codes "0." ++ replicate (places - 1) 48 ++ codes "1"
+
+-- the unit of a map whose numbers aren't whole map units
+abbrev pub unit_words : ℕ → List ℕ
+unit_words places = if places == 0 then codes "" else codes " unit " ++ unit_of places
+
 abbrev pub format_words : ListedFormat → List ℕ
 format_words Doom = codes " doom"
 format_words Hexen = codes " hexen"
-format_words Udmf = codes " udmf"
+format_words (Udmf places) = codes " udmf" ++ unit_words places
 
 -- how great it is
 abbrev pub size_words : MapSizes → List ℕ
@@ -41,10 +49,14 @@ entry_line e = word_of e.name ++ said_words e.said
 
 -- ---- the same as a JSON object, whose members are named by the words of the line
 
+-- a string, so that no reader rounds it
+abbrev pub unit_json : ℕ → List ℕ
+unit_json places = if places == 0 then codes "" else codes ",\"unit\":\"" ++ unit_of places ++ codes "\""
+
 abbrev pub format_json : ListedFormat → List ℕ
 format_json Doom = codes ",\"format\":\"doom\""
 format_json Hexen = codes ",\"format\":\"hexen\""
-format_json Udmf = codes ",\"format\":\"udmf\""
+format_json (Udmf places) = codes ",\"format\":\"udmf\"" ++ unit_json places
 
 abbrev pub size_json : MapSizes → List ℕ
 size_json s = codes ",\"lines\":" ++ decimal s.lines ++ codes ",\"points\":" ++ decimal s.points ++ codes ",\"sectors\":" ++ decimal s.sectors

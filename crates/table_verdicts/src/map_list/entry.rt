@@ -2,12 +2,12 @@
 
 use map_answers::sight_status::Status;
 
-/// The format of a map.
+/// The format of a map; of one of UDMF also the decimal places of the unit in which its points are told.
 #[derive(Clone, Copy)]
 pub enum ListedFormat {
     Doom,
     Hexen,
-    Udmf,
+    Udmf { places: u8 },
 }
 
 /// How great a map is, and what its REJECT holds.

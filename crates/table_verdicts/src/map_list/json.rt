@@ -7,18 +7,25 @@ ghost use Rattle.table_verdicts.specs.MapList.Lines.{entry_json, entry_row, form
 use crate::json::push_refused;
 use crate::map_list::entry::{ListedFormat, MapEntry, MapSizes, Said};
 use crate::map_list::line::line_of;
+use crate::map_list::unit::push_unit;
 use map_answers::sight_status::{push_count, push_text};
 use row_spelling::{Spelling, push_quoted};
 use std::alloc::{AllocError, Global};
 use wad_dir::all_maps::text_of;
 
-fn format_member(format: ListedFormat) -> &'static str
-    ensures { result.now ≡ format_json format }
+/// Adds the format of a map, and its unit where that isn't a whole map unit.
+fn push_format(line: &mut String, format: ListedFormat) -> Result<(), AllocError>
+    ensures { OnOk result (string_bytes line.new ≡ string_bytes line.old ++ format_json format) }
 {
     match format {
-        ListedFormat::Doom => ",\"format\":\"doom\"",
-        ListedFormat::Hexen => ",\"format\":\"hexen\"",
-        ListedFormat::Udmf => ",\"format\":\"udmf\"",
+        ListedFormat::Doom => push_text(line, ",\"format\":\"doom\""),
+        ListedFormat::Hexen => push_text(line, ",\"format\":\"hexen\""),
+        ListedFormat::Udmf { places: 0 } => push_text(line, ",\"format\":\"udmf\""),
+        ListedFormat::Udmf { places } => {
+            push_text(line, ",\"format\":\"udmf\",\"unit\":\"")?;
+            push_unit(line, places)?;
+            push_text(line, "\"")
+        }
     }
 }
 
@@ -56,7 +63,7 @@ fn push_said(alloc: Global, line: &mut String, said: &Said) -> Result<(), AllocE
 {
     match said {
         Said::Read(sizes) => {
-            push_text(line, format_member(sizes.format))?;
+            push_format(line, sizes.format)?;
             push_sizes(alloc, line, sizes)?;
             push_reject(alloc, line, sizes)
         }

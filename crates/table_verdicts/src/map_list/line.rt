@@ -5,17 +5,23 @@ ghost use Rattle.wad_dir.specs.AllMaps.Maps.{is_map_name};
 ghost use Rattle.table_verdicts.specs.MapList.Lines.{entry_line, format_words, reject_words, said_words, set_words, size_words};
 
 use crate::map_list::entry::{ListedFormat, MapEntry, MapSizes, Said};
+use crate::map_list::unit::push_unit;
 use map_answers::sight_status::{push_count, push_reason, push_text};
 use std::alloc::{AllocError, Global};
 use wad_dir::all_maps::text_of;
 
-fn format_name(format: ListedFormat) -> &'static str
-    ensures { result.now ≡ format_words format }
+/// Adds the format of a map, and its unit where that isn't a whole map unit.
+fn push_format(line: &mut String, format: ListedFormat) -> Result<(), AllocError>
+    ensures { OnOk result (string_bytes line.new ≡ string_bytes line.old ++ format_words format) }
 {
     match format {
-        ListedFormat::Doom => " doom",
-        ListedFormat::Hexen => " hexen",
-        ListedFormat::Udmf => " udmf",
+        ListedFormat::Doom => push_text(line, " doom"),
+        ListedFormat::Hexen => push_text(line, " hexen"),
+        ListedFormat::Udmf { places: 0 } => push_text(line, " udmf"),
+        ListedFormat::Udmf { places } => {
+            push_text(line, " udmf unit ")?;
+            push_unit(line, places)
+        }
     }
 }
 
@@ -53,7 +59,7 @@ fn push_said(alloc: Global, line: &mut String, said: &Said) -> Result<(), AllocE
 {
     match said {
         Said::Read(sizes) => {
-            push_text(line, format_name(sizes.format))?;
+            push_format(line, sizes.format)?;
             push_sizes(alloc, line, sizes)?;
             push_reject(alloc, line, sizes)?;
             push_text(line, "\n")

@@ -8,32 +8,37 @@ ghost use Rattle.table_verdicts.specs.MapList.Entry.{entry_named, format_named, 
 
 use crate::map_list::entry::{ListedFormat, MapEntry, Said};
 use crate::map_list::sizes::sizes_of;
-use map_answers::plan_named;
 use map_answers::sight_status::Status;
+use map_answers::{lump_of, plan_named};
 use sight_names::{MapFormat, Memory};
 use std::alloc::Global;
+use udmf_map::text_places;
 use wad_dir::all_maps::text_of;
 use wad_dir::{Wad, find_map};
 use whole_wad::reject_named;
 
-/// How the format of a map is listed.
-fn listed_format(format: MapFormat) -> ListedFormat
-    ensures { result ≡ listed_format format }
+/// How the format of a map is listed whose LINEDEFS, or whose text, has these bytes.
+fn listed_format(alloc: Global, format: MapFormat, linedefs: &[u8]) -> Result<ListedFormat, Memory>
+    ensures { IfOk result (λ f. f ≡ listed_format format linedefs.now) }
 {
     match format {
-        MapFormat::Doom => ListedFormat::Doom,
-        MapFormat::Hexen => ListedFormat::Hexen,
-        MapFormat::Text => ListedFormat::Udmf,
+        MapFormat::Doom => Ok(ListedFormat::Doom),
+        MapFormat::Hexen => Ok(ListedFormat::Hexen),
+        MapFormat::Text => Ok(ListedFormat::Udmf {
+            places: text_places(alloc, linedefs)?,
+        }),
     }
 }
 
 /// The format of the map of that name, Doom's where there is none.
-fn format_named(wad: &Wad, name: &str) -> ListedFormat
-    ensures { result ≡ format_named (entry_names wad.now.entries) name.now }
+fn format_named(alloc: Global, bytes: &[u8], wad: &Wad, name: &str) -> Result<ListedFormat, Memory>
+    requires inside { All (λ entry. entry.at + entry.size ≤ length bytes.now) wad.now.entries }
+    requires names { names_of (file_of bytes.now wad.now) ≡ entry_names wad.now.entries }
+    ensures { IfOk result (λ f. f ≡ format_named (file_of bytes.now wad.now) name.now) }
 {
     match find_map(wad, name) {
-        Ok(spot) => listed_format(spot.format),
-        Err(_) => ListedFormat::Doom,
+        Ok(spot) => listed_format(alloc, spot.format, lump_of(bytes, wad, spot.linedefs)),
+        Err(_) => Ok(ListedFormat::Doom),
     }
 }
 
@@ -56,7 +61,8 @@ pub fn entry_of(
     match plan_named(alloc, bytes, wad, large, text) {
         Ok(plan) => {
             let reject = reject_named(bytes, wad, text);
-            let sizes = sizes_of(alloc, &plan, format_named(wad, text), reject)?;
+            let format = format_named(alloc, bytes, wad, text)?;
+            let sizes = sizes_of(alloc, &plan, format, reject)?;
             Ok(MapEntry {
                 name,
                 said: Said::Read(sizes),
