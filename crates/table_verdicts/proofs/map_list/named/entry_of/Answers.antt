@@ -2,7 +2,7 @@ use Rattle.std.proofs.Common.{◌≡◌, Ok, sym, ap, ◌∙◌}
 use Rattle.sight_names.specs.Map.{map_of}
 use Rattle.map_answers.specs.Input.{map_named}
 use Rattle.wad_dir.specs.AllMaps.Names.{word_of}
-use Rattle.wad_dir.specs.Wad.{file_of, names_of}
+use Rattle.wad_dir.specs.Wad.{file_of}
 use Rattle.whole_wad.specs.Rejects.{reject_named}
 use Rattle.table_verdicts.specs.declared.map_list.entry.Said.TheVariants as said
 use Rattle.table_verdicts.specs.MapList.Entry.{format_named, said_of}
@@ -14,7 +14,7 @@ returns-in_ok-sizes-in-Ok-clause-is c =
     let w = file_of c.args.bytes.now c.args.wad.now in
     let word : c.text_of-text.result.now ≡ word_of name = c.text_of-text.ensures in
     let read : Ok (map_of c.in-Ok.plan) ≡ map_named c.args.large w (word_of name) = sym c.in-Ok.ensures.map ∙ ap (map_named c.args.large w) word in
-    let format : c.format_named.result ≡ format_named (names_of w) (word_of name) = c.format_named.ensures ∙ (λ i. format_named (sym c.requires.names i) (word i)) in
+    let format : c.in_ok-format-in-Ok.format ≡ format_named w (word_of name) = c.in_ok-format-in-Ok.ensures ∙ ap (format_named w) word in
     let reject : c.reject_named-reject.result.now ≡ reject_named w (word_of name) = c.reject_named-reject.ensures ∙ ap (reject_named w) word in
     let sizes = c.in_ok-sizes-in-Ok.ensures in
     λ i. record { name = name; said = (ap (λ s. said.Read s) sizes ∙ (λ j. said_of (read j) (format j) (reject j))) i }
