@@ -13,7 +13,6 @@ ghost use Rattle.cert_format.specs.CertGroups.Grammar.{IsTwoInOrder};
 ghost use Rattle.certificates.specs.CertExact.Grammar.{as_two};
 ghost use Rattle.gate_floods.specs.Exact.{IsAcceptedThree, TellsAll};
 ghost use Rattle.group_job.specs.Built.{IsGroupFault};
-ghost use Rattle.exact_checker.specs.Rows.{AreJoinedRows};
 ghost use Rattle.exact_checker.specs.Judged.{IsThreeFor, TellsTrees};
 ghost use Rattle.exact_job.specs.Built.{AreInOrder, IsOverGroups};
 
@@ -26,7 +25,6 @@ use cert_checker::mesh_over;
 use cert_format::{Labelled, Sizes};
 use certificates::cert_exact::ExactParts;
 use face_groups::{Group, GroupFault};
-use gate_floods::gate_masks::Row;
 use group_checker::GroupedMesh;
 use group_job::{MapOfGroups, labelled, map_of_groups};
 use mesh_shape::half_edges::HalfEdges;
@@ -95,14 +93,12 @@ fn finish(
     alloc: Global,
     plan: &Plan,
     over: &GroupedMesh,
-    joined: &[Row],
     cert: ExactParts,
 ) -> Result<ExactBuilt, Memory>
     requires audited { LinesMeetAtEnds (map_of plan.now) }
     requires three { IsThreeFor plan.now cert }
     requires over { IsOverGroups plan.now cert.groups (triangles_in cert.triangles) (labels_in cert.triangles) over.now.plan }
     requires rays { AreSightRaysBelow (map_of over.now.plan) cert.rays (length cert.rays) }
-    requires joined { AreJoinedRows (length cert.groups) cert.rays joined.now }
     requires trees { TellsTrees (map_of over.now.plan) cert None }
     ensures sectors { IfOk result (λ b. b.table.n ≡ plan.now.sectors) }
     ensures cert { IfOk result (λ b. b.cert ≡ cert) }
@@ -110,7 +106,12 @@ fn finish(
     ensures sight { IfOk result (λ b. TellsAll (map_of plan.now) b.table) }
 {
     let _ = plan.lines();
-    let table = table_of(alloc, plan.sectors, cert.groups.as_slice(), joined)?;
+    let table = table_of(
+        alloc,
+        plan.sectors,
+        cert.groups.as_slice(),
+        cert.rays.as_slice(),
+    )?;
     Ok(ExactBuilt { table, cert })
 }
 
@@ -142,7 +143,7 @@ fn build_grouped<W: Walkers>(
     let edges = edges_of(alloc, over)?;
     let settled = settle(walkers, alloc, over, &edges, with_groups(sizes, over))?;
     let cert = cert_of(sizes, groups, triangles, settled.rays, settled.trees);
-    finish(alloc, plan, over, settled.joined.as_slice(), cert)
+    finish(alloc, plan, over, cert)
 }
 
 /// The map of groups with these triangles as its mesh.

@@ -1,101 +1,80 @@
-//! The table of sectors, by which groups are joined.
+//! The table of sectors, by the rays between their groups.
 
-ghost use Rattle.std.specs.Prelude.{◌≡◌, ◌⊎◌, ◌↔◌, ◌*◌, ◌<◌, ◌≤◌, ℕ, Some, IfOk, IsTrue, length, slice_get};
+ghost use Rattle.std.specs.Prelude.{◌≡◌, ◌<◌, ℕ, Contains, IfOk, length, map};
 ghost use Rattle.certificates.specs.declared.cert_exact.cert.ExactParts.{ExactParts as PartsOf};
 ghost use Rattle.certificates.specs.CertExact.Grammar.{as_two};
-ghost use Rattle.gate_floods.specs.GateMasks.Words.{HasBit};
 ghost use Rattle.group_job.specs.Marks.{SetsMore};
-ghost use Rattle.exact_checker.specs.Rows.{AreJoinedRows};
-ghost use Rattle.exact_job.specs.Table.{HasNoneIn, HasSome, IsJoinedWithSome, IsRowOf, IsTableOf};
+ghost use Rattle.group_job.specs.Sectors.{AreListedByGroups, AreOfSectors, ArePairsBelow};
+ghost use Rattle.exact_job.specs.Lines.{pair_of};
+ghost use Rattle.exact_job.specs.Table.{AreInOneGroup, IsTableOf};
 
-use exact_checker::words_of;
 use face_groups::Group;
-use gate_floods::gate_masks::Row;
-use gate_floods::gate_masks::words::{has_bit, no_bits};
-use group_checker::members_of;
 use reject_bits::Table;
-use sight_names::{MOST_TRIANGLES, Memory};
+use sight_names::{Memory, PairRay};
 use std::alloc::Global;
 
-/// Puts all numbers of the other set that this one has room for into it.
-fn join(row: &mut [u64], other: &[u64])
-    ensures len { length row.new ≡ length row.old }
-    ensures bits { (c : ℕ) → c < 64 * length row.old → HasBit row.new c ↔ (HasBit row.old c ⊎ HasBit other.now c) }
+/// Sets the bits of one sector with each of these.
+fn set_row(table: &mut Table, a: u16, sectors: &[u16])
+    requires row { a < table.old.n }
+    requires below { (s : ℕ) → Contains sectors.now s → s < table.old.n }
+    ensures { SetsMore (λ c d. (c ≡ a) × Contains sectors.now d) table.old table.new }
 {
-    for place in 0..row.len().min(other.len()) {
-        row[place] |= other[place];
+    for i in 0..sectors.len() {
+        table.set(a, sectors[i]);
     }
 }
 
-/// Adds to the row of groups all that are joined with one of these.
-fn join_groups(row: &mut [u64], joined: &[Row], groups: &[u16])
-    ensures len { length row.new ≡ length row.old }
-    ensures bits { (c : ℕ) → c < 64 * length row.old → HasBit row.new c ↔ (HasBit row.old c ⊎ IsJoinedWithSome joined.now groups.now c) }
+/// Sets the bits of each of these sectors with each of those.
+fn set_block(table: &mut Table, from: &[u16], to: &[u16])
+    requires from { (s : ℕ) → Contains from.now s → s < table.old.n }
+    requires to { (s : ℕ) → Contains to.now s → s < table.old.n }
+    ensures { SetsMore (λ c d. Contains from.now c × Contains to.now d) table.old table.new }
 {
-    for group in groups {
-        join(row, words_of(joined, *group));
+    for i in 0..from.len() {
+        set_row(table, from[i], to);
     }
 }
 
-/// The row of those of so many groups that are joined with one of these.
-fn row_of(alloc: Global, count: u16, joined: &[Row], groups: &[u16]) -> Result<Vec<u64>, Memory>
-    ensures { IfOk result (λ v. IsRowOf joined.now groups.now count v.items) }
+/// Sets the bits of the sectors of each group with each other.
+fn set_own(marks: &mut Table, groups: &[Group])
+    requires { AreOfSectors marks.old.n groups.now }
+    ensures { SetsMore (AreInOneGroup groups.now) marks.old marks.new }
 {
-    let mut row = no_bits(alloc, count)?;
-    join_groups(row.as_mut_slice(), joined, groups);
-    Ok(row)
-}
-
-/// Whether the row has one of these groups.
-fn has_some(row: &[u64], groups: &[u16]) -> bool
-    ensures { IsTrue result ↔ HasSome row.now groups.now }
-{
-    for group in groups {
-        if has_bit(row, *group) {
-            return true;
-        }
-    }
-    false
-}
-
-/// The groups of the sector.
-fn groups_of(members: &[Group], sector: u16) -> &[u16]
-    requires { sector < length members.now }
-    ensures { slice_get members.now sector ≡ Some result.now }
-{
-    members[sector as usize].as_slice()
-}
-
-/// Sets the bits of one sector with each that has none of its groups in the row.
-fn set_row(table: &mut Table, members: &[Group], sector: u16, row: &[u64])
-    requires sector { sector < table.old.n }
-    requires members { length members.now ≡ table.old.n }
-    ensures { SetsMore (λ c d. (c ≡ sector) × HasNoneIn row.now members.now d) table.old table.new }
-{
-    for other in 0..table.sectors() {
-        if !has_some(row, groups_of(members, other)) {
-            table.set(sector, other);
-        }
+    for i in 0..groups.len() {
+        let own = groups[i].as_slice();
+        set_block(marks, own, own);
     }
 }
 
-/// The table of so many sectors: a bit is set exactly where no groups of the two are joined.
+/// Sets the bits of each sector of the one group of a ray with each sector of the other, both ways, for each of these rays.
+fn set_joined(marks: &mut Table, groups: &[Group], rays: &[PairRay])
+    requires below { AreOfSectors marks.old.n groups.now }
+    requires pairs { ArePairsBelow (length groups.now) (map pair_of rays.now) }
+    ensures { SetsMore (AreListedByGroups (map pair_of rays.now) groups.now) marks.old marks.new }
+{
+    for i in 0..rays.len() {
+        let from = groups[rays[i].pair.a as usize].as_slice();
+        let to = groups[rays[i].pair.b as usize].as_slice();
+        set_block(marks, from, to);
+        set_block(marks, to, from);
+    }
+}
+
+/// The table of so many sectors: a bit is set exactly where no groups of the two are joined by these rays.
 pub fn table_of(
     alloc: Global,
     sectors: u16,
     groups: &[Group],
-    joined: &[Row],
+    rays: &[PairRay],
 ) -> Result<Table, Memory>
-    requires few { length groups.now ≤ MOST_TRIANGLES }
+    requires below { AreOfSectors sectors groups.now }
+    requires pairs { ArePairsBelow (length groups.now) (map pair_of rays.now) }
     ensures sectors { IfOk result (λ t. t.n ≡ sectors) }
-    ensures pairs { (c : PartsOf) → c.groups ≡ groups.now → AreJoinedRows (length c.groups) c.rays joined.now → IfOk result (IsTableOf (as_two c)) }
+    ensures pairs { (c : PartsOf) → c.groups ≡ groups.now → c.rays ≡ rays.now → IfOk result (IsTableOf (as_two c)) }
 {
-    let members = members_of(alloc, groups, sectors)?;
-    let mut table = Table::clear(alloc, sectors)?;
-    for sector in 0..sectors {
-        let own = groups_of(members.as_slice(), sector);
-        let row = row_of(alloc, groups.len() as u16, joined, own)?;
-        set_row(&mut table, members.as_slice(), sector, row.as_slice());
-    }
+    let mut seen = Table::clear(alloc, sectors)?;
+    set_own(&mut seen, groups);
+    set_joined(&mut seen, groups, rays);
+    let table = seen.others();
     Ok(table)
 }

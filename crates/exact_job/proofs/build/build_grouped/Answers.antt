@@ -11,7 +11,6 @@ use Rattle.cert_format.specs.CertGroups.Grammar.{IsTwoInOrder}
 use Rattle.certificates.specs.declared.cert_exact.cert.ExactParts.{ExactParts}
 use Rattle.certificates.specs.CertExact.Grammar.{as_two}
 use Rattle.exact_checker.specs.Judged.{IsThreeFor, TellsTrees}
-use Rattle.exact_checker.specs.Rows.{AreJoinedRows}
 use Rattle.exact_job.specs.declared.build.ExactBuilt.{ExactBuilt}
 use Rattle.exact_job.specs.Built.{IsOverGroups, IsSettled}
 use Rattle.exact_job.specs.Rays.{AreRaysInOrder}
@@ -39,11 +38,6 @@ finish-requires-clause-over g c = subst (λ (x : ExactParts). IsOverGroups c.arg
 
 pub finish-requires-clause-rays : goal.finish-requires-clause-rays
 finish-requires-clause-rays g c = subst (λ (x : ExactParts). AreSightRaysBelow (map_of c.args.over.now.plan) x.rays (length x.rays)) (sym c.cert_of-cert.ensures) c.in_ok-settled.ensures.sight
-
-pub finish-requires-clause-joined : goal.finish-requires-clause-joined
-finish-requires-clause-joined g c =
-    let rows = subst (λ (n : ℕ). AreJoinedRows n c.in_ok-settled.settled.rays.items c.in_ok-settled.settled.joined.items) c.requires.over.sectors c.in_ok-settled.ensures.joined in
-    subst (λ (x : ExactParts). AreJoinedRows (length x.groups) x.rays c.as_slice.result.now) (sym c.cert_of-cert.ensures) (subst (AreJoinedRows (length c.args.groups) c.in_ok-settled.settled.rays.items) (sym c.as_slice.ensures.value) rows)
 
 pub finish-requires-clause-trees : goal.finish-requires-clause-trees
 finish-requires-clause-trees g c =

@@ -1,19 +1,23 @@
-use Rattle.std.proofs.Common.{arith}
-use Rattle.math_base.proofs.Bools.{not_both_values}
-use Rattle.group_job.proofs.Marks.{sets_next, sets_none, sets_one, sets_skip}
-use Rattle.exact_job.proofs.Tables.{RowStep, row_set, step_none, step_set}
-use Rattle.exact_job.proofs.table.set_row.Goals.{then-not-has_some, else-not-has_some}
+use Rattle.std.proofs.Common.{◌≡◌, ◌<◌, ℕ, length, get_or, sym, subst, arith}
+use Rattle.std.proofs.lemmas.Option.{slice_get-get_or}
+use Rattle.group_job.specs.Marks.{SetsMore, OfSteps}
+use Rattle.face_groups.proofs.GroupsBase.Ordered.{at_contains}
+use Rattle.group_job.proofs.Marks.{sets_next, sets_one}
+use Rattle.group_job.proofs.Steps.{RowStep, row_set, row_step}
 use Rattle.exact_job.proofs.table.set_row.Goals as goal
 
-pub loop-other-init : goal.loop-other-init
-loop-other-init c = sets_none (RowStep c.args.row.now c.args.members.now c.args.sector) c.args.table.now
+pub set-requires-clause-to : goal.set-requires-clause-to
+set-requires-clause-to c =
+    let x = get_or c.args.sectors.now c.loop-i.i 0 in
+    subst (λ (n : ℕ). x < n) (sym c.loop-i.invariant.sectors) (c.requires.below x (at_contains c.args.sectors.now x (c.loop-i.i, slice_get-get_or c.args.sectors.now c.loop-i.i 0 c.loop-i-test.true)))
 
-pub loop-other-preserved : goal.loop-other-preserved
-loop-other-preserved c = elim c.if-not-has_some.branch [
-  | then-not-has_some w ↦ rw w.table-is (sets_next (RowStep c.args.row.now c.args.members.now c.args.sector) c.loop-other.other c.args.table.now c.loop-other.table _ c.loop-other.invariant
-      (step_set c.args.row.now c.args.members.now c.args.sector c.loop-other.other c.groups_of.result.now c.groups_of.ensures c.loop-other.table _ (λ s. not_both_values c.has_some.result (c.has_some.ensures.1 s) w.if-not-has_some.true) (sets_one c.loop-other.table _ c.args.sector c.loop-other.other w.set.ensures.bit w.set.ensures.pairs)))
-  | else-not-has_some w ↦ rw w.table-is (sets_skip (RowStep c.args.row.now c.args.members.now c.args.sector) c.loop-other.other c.args.table.now c.loop-other.table c.loop-other.invariant (step_none c.args.row.now c.args.members.now c.args.sector c.loop-other.other c.groups_of.result.now c.groups_of.ensures (c.has_some.ensures.0 w.if-not-has_some.false)))
-]
+pub loop-i-preserved : goal.loop-i-preserved
+loop-i-preserved c =
+    let x = get_or c.args.sectors.now c.loop-i.i 0 in
+    sets_next (RowStep c.args.a c.args.sectors.now) c.loop-i.i c.args.table.now c.loop-i.table c.set.new.self c.loop-i.invariant
+    (row_step c.args.a c.args.sectors.now c.loop-i.i x c.loop-i.table c.set.new.self (slice_get-get_or c.args.sectors.now c.loop-i.i 0 c.loop-i-test.true) (sets_one c.loop-i.table c.set.new.self c.args.a x c.set.ensures.bit c.set.ensures.pairs))
 
 pub returns : goal.returns
-returns c = row_set c.args.row.now c.args.members.now c.args.sector c.loop-other.other c.args.table.now c.loop-other.table (omega arith) c.loop-other.invariant
+returns c =
+    let e : c.loop-i.i ≡ length c.args.sectors.now = omega arith in
+    row_set c.args.a c.args.sectors.now c.args.table.now c.loop-i.table (subst (λ (n : ℕ). SetsMore (OfSteps (RowStep c.args.a c.args.sectors.now) n) c.args.table.now c.loop-i.table) e c.loop-i.invariant)
