@@ -53,7 +53,6 @@ fn are_found(over: &GroupedMesh, edges: &HalfEdges, rays: &[PairRay]) -> bool
 }
 
 /// Whether this one is.
-#[tactic(auto, using(crate::proofs::Judging::one_found))]
 fn is_found(over: &GroupedMesh, edges: &HalfEdges, one: &PairRay) -> bool
     requires { IsGround over.now.plan over.now.mesh.triangles over.now.labels edges.now }
     ensures { IsTrue result → IsFoundRay over.now.plan one.now }
@@ -98,7 +97,6 @@ fn those_found(
 
 /// Rays for the pairs of these, on few lines where groups have many, without those that are no sight rays of their pairs. All are
 /// judged at once, since that is faster; one by one only where one of them is at fault.
-#[tactic(auto, using(crate::proofs::Judging::in_order, crate::proofs::FewLines::moved_ascend))]
 pub fn judged(
     alloc: Global,
     over: &GroupedMesh,
