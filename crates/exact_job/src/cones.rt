@@ -10,6 +10,13 @@ pub struct Line {
     pub c: i64,
 }
 
+/// An end of a portal, in numbers as wide as those of lines: so none is made wider where lines are turned.
+#[derive(Clone, Copy)]
+pub struct End {
+    pub x: i64,
+    pub y: i64,
+}
+
 /// A line: its value is above 0 at points on its left.
 #[derive(Clone, Copy)]
 struct Form {
@@ -24,20 +31,29 @@ struct Form {
 pub struct Cone {
     first: Form,
     second: Form,
-    first_left: Pt,
-    first_right: Pt,
-    second_left: Pt,
-    second_right: Pt,
+    first_left: End,
+    first_right: End,
+    second_left: End,
+    second_right: End,
     rights: u32,
     lefts: u32,
 }
 
-/// The line's value at the point.
+/// The point as an end.
 #[inline(always)]
-fn value(form: &Form, at: Pt) -> i64 {
+pub fn end_at(at: Pt) -> End {
+    End {
+        x: at.x as i64,
+        y: at.y as i64,
+    }
+}
+
+/// The line's value at the end.
+#[inline(always)]
+fn value(form: &Form, end: End) -> i64 {
     form.a
-        .wrapping_mul(at.x as i64)
-        .wrapping_add(form.b.wrapping_mul(at.y as i64))
+        .wrapping_mul(end.x)
+        .wrapping_add(form.b.wrapping_mul(end.y))
         .wrapping_add(form.c)
 }
 
@@ -52,14 +68,12 @@ impl Line {
     }
 }
 
-/// The line from the one point to the other.
+/// The line from the one end to the other.
 #[inline(always)]
-fn form_of(from: Pt, to: Pt) -> Form {
-    let a = (from.y as i64).wrapping_sub(to.y as i64);
-    let b = (to.x as i64).wrapping_sub(from.x as i64);
-    let at = a
-        .wrapping_mul(from.x as i64)
-        .wrapping_add(b.wrapping_mul(from.y as i64));
+fn form_of(from: End, to: End) -> Form {
+    let a = from.y.wrapping_sub(to.y);
+    let b = to.x.wrapping_sub(from.x);
+    let at = a.wrapping_mul(from.x).wrapping_add(b.wrapping_mul(from.y));
     Form {
         a,
         b,
@@ -77,13 +91,13 @@ pub fn narrow(value: i64) -> i32 {
 
 /// The ends from this place on.
 #[inline(always)]
-fn behind(ends: &[Pt], from: u32) -> &[Pt] {
+fn behind(ends: &[End], from: u32) -> &[End] {
     &ends[(from as usize).min(ends.len())..]
 }
 
 impl Cone {
     /// The lines of one portal.
-    pub fn of(left: Pt, right: Pt) -> Cone {
+    pub fn of(left: End, right: End) -> Cone {
         Cone {
             first: form_of(right, left),
             second: form_of(left, right),
@@ -96,21 +110,21 @@ impl Cone {
         }
     }
 
-    /// Whether some line passes on the left of the point.
+    /// Whether some line passes on the left of the end.
     #[inline(always)]
-    pub fn leads_left(&self, apex: Pt) -> bool {
+    pub fn leads_left(&self, apex: End) -> bool {
         value(&self.first, apex) < 0
     }
 
-    /// Whether some line passes on the right of the point.
+    /// Whether some line passes on the right of the end.
     #[inline(always)]
-    pub fn leads_right(&self, apex: Pt) -> bool {
+    pub fn leads_right(&self, apex: End) -> bool {
         value(&self.second, apex) > 0
     }
 
     /// Turns the second line about left ends to the new right end.
     #[inline(always)]
-    pub fn turn_second(&mut self, lefts: &[Pt], right: Pt) {
+    pub fn turn_second(&mut self, lefts: &[End], right: End) {
         let mut left = self.second_left;
         let mut form = form_of(left, right);
         let mut place = self.lefts;
@@ -131,7 +145,7 @@ impl Cone {
 
     /// Turns the first line about right ends to the new left end.
     #[inline(always)]
-    pub fn turn_first(&mut self, rights: &[Pt], left: Pt) {
+    pub fn turn_first(&mut self, rights: &[End], left: End) {
         let mut right = self.first_right;
         let mut form = form_of(right, left);
         let mut place = self.rights;
@@ -166,11 +180,11 @@ impl Cone {
 
     /// Where both are one line: a line across it, between the two ends of the portal.
     fn line_across(&self) -> Line {
-        let x = (self.first_left.x as i64).wrapping_sub(self.first_right.x as i64);
-        let y = (self.first_left.y as i64).wrapping_sub(self.first_right.y as i64);
+        let x = self.first_left.x.wrapping_sub(self.first_right.x);
+        let y = self.first_left.y.wrapping_sub(self.first_right.y);
         let at = x
-            .wrapping_mul(self.first_left.x as i64)
-            .wrapping_add(y.wrapping_mul(self.first_left.y as i64));
+            .wrapping_mul(self.first_left.x)
+            .wrapping_add(y.wrapping_mul(self.first_left.y));
         Line {
             a: narrow(x.wrapping_mul(2)),
             b: narrow(y.wrapping_mul(2)),
@@ -180,7 +194,9 @@ impl Cone {
 
     /// A line in the middle of the two, moved a little off the end where they meet.
     fn line_between(&self) -> Line {
-        let shift = if self.first_right == self.second_right {
+        let shift = if self.first_right.x == self.second_right.x
+            && self.first_right.y == self.second_right.y
+        {
             -1i64
         } else {
             1i64

@@ -122,7 +122,7 @@ fn take_in(
     let mut number: usize = 0;
     for one in found {
         let Searched { growth, tracks } = one;
-        pairs.join_all(known, &tracks)?;
+        pairs.join_all(&tracks)?;
         if number < sought.len() {
             sought[number].trace.grow(growth, known.changed.len())?;
         }
@@ -179,7 +179,7 @@ fn search_rounds<W: Walkers>(
         }
         drop_found(wanted.as_mut_slice(), pairs.new.as_slice());
         let_go(alloc, sought.as_mut_slice(), wanted.as_slice(), known.width);
-        known.add(gates, pairs.new.as_slice())?;
+        known.add(pairs.new.as_slice())?;
     }
     Ok(())
 }
@@ -200,9 +200,9 @@ pub fn first_rays<W: Walkers>(
     let cells = Cells::of(alloc, plan, &over.mesh, edges, gates.gates.as_slice())?;
     let mut known = Known::of(alloc, &gates, plan.sectors)?;
     let mut pairs = Pairs::new(alloc, &known)?;
-    try_lines(alloc, &cells, gates.gates.as_slice(), &known, &mut pairs)?;
+    try_lines(alloc, &cells, gates.gates.as_slice(), &mut pairs)?;
     known.join(pairs.new.as_slice());
-    known.begin(&gates)?;
+    known.begin()?;
     let order = known.order(alloc)?;
     let wanted = wanted_rows(alloc, &known, order.as_slice(), classes.as_slice())?;
     let sought = wanting(alloc, order.as_slice(), wanted.as_slice(), known.width)?;

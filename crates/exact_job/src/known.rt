@@ -3,6 +3,7 @@
 //! Nothing is proved of it: it only grows, and what a search misses by it the rounds behind the first walk find.
 
 use crate::bars::{Bar, bars_of, may_follow};
+use crate::cells::short;
 use crate::words::{
     count_in, has_any, has_at, join_at, put_at, put_bit, row_with, start_of, take_group, width_of,
     word_at, zeros,
@@ -28,6 +29,10 @@ pub struct Known {
     /// Whether that is anything, a bit for each gate.
     pub changed: Vec<u64>,
     bars: Vec<Bar>,
+    /// Where those out of each group are.
+    spans: Vec<Span>,
+    /// Which groups are newly known to see any.
+    fresh: Vec<bool>,
     /// The groups from which a flood has to go on.
     queue: Vec<u16>,
 }
@@ -40,12 +45,35 @@ pub fn first_of(gates: &Gates, group: u32) -> usize {
     }
 }
 
+/// Where the gates out of a group are.
+#[derive(Clone, Copy)]
+struct Span {
+    from: u32,
+    to: u32,
+}
+
+/// Where the gates out of each of so many groups are.
+fn spans_of(alloc: Global, gates: &Gates, count: u16) -> Result<Vec<Span>, Memory> {
+    let mut spans = Vec::new(alloc);
+    for group in 0..count {
+        spans.push(Span {
+            from: short(first_of(gates, group as u32)),
+            to: short(first_of(gates, group as u32 + 1)),
+        })?;
+    }
+    Ok(spans)
+}
+
 /// The bars of the gates out of this group.
 #[inline(always)]
-fn bars_out_of<'a>(bars: &'a [Bar], gates: &Gates, group: u16) -> &'a [Bar] {
-    let to = first_of(gates, group as u32 + 1).min(bars.len());
-    let from = first_of(gates, group as u32).min(to);
-    &bars[from..to]
+fn bars_out_of<'a>(bars: &'a [Bar], spans: &[Span], group: u16) -> &'a [Bar] {
+    match spans.get(group as usize) {
+        Some(span) => {
+            let to = (span.to as usize).min(bars.len());
+            &bars[(span.from as usize).min(to)..to]
+        }
+        None => &[],
+    }
 }
 
 /// Goes on with a flood from one gate through these: what lies behind those that may follow it is flooded, and queued.
@@ -54,11 +82,10 @@ fn flood_on(
     own: &Bar,
     bars: &[Bar],
     flood: &mut [u64],
-    begin: usize,
     queue: &mut Vec<u16>,
 ) -> Result<(), Memory> {
     for next in bars {
-        let place = begin.saturating_add(next.far as usize / 64);
+        let place = next.far as usize / 64;
         let bit: u64 = 1 << (next.far % 64);
         if place < flood.len() && flood[place] & bit == 0 && may_follow(own, next) {
             flood[place] |= bit;
@@ -66,6 +93,22 @@ fn flood_on(
         }
     }
     Ok(())
+}
+
+/// Notes the groups that are newly known to see any.
+fn note_fresh(fresh: &mut [bool], new: &[u64], width: usize) {
+    for group in 0..fresh.len() {
+        fresh[group] = has_any(row_with(new, group, width));
+    }
+}
+
+/// Whether it is noted of the group.
+#[inline(always)]
+fn is_fresh(fresh: &[bool], group: u16) -> bool {
+    match fresh.get(group as usize) {
+        Some(one) => *one,
+        None => false,
+    }
 }
 
 impl Known {
@@ -82,6 +125,8 @@ impl Known {
             more: zeros(alloc, start_of(number, width))?,
             changed: zeros(alloc, number.div_ceil(64))?,
             bars: bars_of(alloc, gates.gates.as_slice())?,
+            spans: spans_of(alloc, gates, count)?,
+            fresh: vec![in alloc; false; count as usize]?,
             queue: Vec::new(alloc),
         };
         for group in 0..count {
@@ -120,7 +165,7 @@ impl Known {
     }
 
     /// The floods and rows of all gates by what is known.
-    pub fn begin(&mut self, gates: &Gates) -> Result<(), Memory> {
+    pub fn begin(&mut self) -> Result<(), Memory> {
         for number in 0..self.bars.len() {
             let Some(bar) = self.bars.get(number) else {
                 return Ok(());
@@ -128,21 +173,19 @@ impl Known {
             let bar = *bar;
             let begin = start_of(number, self.width);
             put_at(self.floods.as_mut_slice(), begin, bar.far);
-            self.flood_from(gates, &bar, begin, bar.far)?;
+            self.flood_from(&bar, begin, bar.far)?;
             self.meet(&bar, number);
         }
         Ok(())
     }
 
     /// The flood that begins here has come to the group: it goes on from there through what the near group is known to see.
-    fn flood_from(
-        &mut self,
-        gates: &Gates,
-        own: &Bar,
-        begin: usize,
-        group: u16,
-    ) -> Result<(), Memory> {
-        let start = start_of(own.near as usize, self.width);
+    fn flood_from(&mut self, own: &Bar, begin: usize, group: u16) -> Result<(), Memory> {
+        let seen = row_with(self.seen.as_slice(), own.near as usize, self.width);
+        let bars = self.bars.as_slice();
+        let spans = self.spans.as_slice();
+        let to = begin.wrapping_add(self.width).min(self.floods.len());
+        let flood = &mut self.floods.as_mut_slice()[begin.min(to)..to];
         self.queue.clear();
         self.queue.push(group)?;
         // no group is queued twice
@@ -150,10 +193,8 @@ impl Known {
             let Some(next) = self.queue.pop() else {
                 return Ok(());
             };
-            if has_at(self.seen.as_slice(), start, next) {
-                let bars = bars_out_of(self.bars.as_slice(), gates, next);
-                let floods = self.floods.as_mut_slice();
-                flood_on(own, bars, floods, begin, &mut self.queue)?;
+            if has_at(seen, 0, next) {
+                flood_on(own, bars_out_of(bars, spans, next), flood, &mut self.queue)?;
             }
         }
         Ok(())
@@ -186,31 +227,26 @@ impl Known {
     }
 
     /// Takes in what the groups are newly known to see, and goes on with all floods.
-    pub fn add(&mut self, gates: &Gates, new: &[u64]) -> Result<(), Memory> {
+    pub fn add(&mut self, new: &[u64]) -> Result<(), Memory> {
         self.join(new);
         self.changed.as_mut_slice().fill(0);
+        note_fresh(self.fresh.as_mut_slice(), new, self.width);
         for number in 0..self.bars.len() {
             let Some(bar) = self.bars.get(number) else {
                 return Ok(());
             };
             let bar = *bar;
-            self.add_to(gates, &bar, number, new)?;
+            self.add_to(&bar, number, new)?;
         }
         Ok(())
     }
 
     /// Goes on with the flood and the row of the gate, where one of its two groups is newly known to see any.
-    fn add_to(
-        &mut self,
-        gates: &Gates,
-        bar: &Bar,
-        number: usize,
-        new: &[u64],
-    ) -> Result<(), Memory> {
-        let near = has_any(row_with(new, bar.near as usize, self.width));
-        let far = has_any(row_with(new, bar.far as usize, self.width));
+    fn add_to(&mut self, bar: &Bar, number: usize, new: &[u64]) -> Result<(), Memory> {
+        let near = is_fresh(self.fresh.as_slice(), bar.near);
+        let far = is_fresh(self.fresh.as_slice(), bar.far);
         if near {
-            self.flood_more(gates, bar, number, new)?;
+            self.flood_more(bar, number, new)?;
         }
         if near || far {
             self.meet(bar, number);
@@ -219,20 +255,14 @@ impl Known {
     }
 
     /// Goes on with the flood of the gate from all groups that its near group is newly known to see.
-    fn flood_more(
-        &mut self,
-        gates: &Gates,
-        bar: &Bar,
-        number: usize,
-        new: &[u64],
-    ) -> Result<(), Memory> {
+    fn flood_more(&mut self, bar: &Bar, number: usize, new: &[u64]) -> Result<(), Memory> {
         let begin = start_of(number, self.width);
         let start = start_of(bar.near as usize, self.width);
         for place in 0..self.width {
-            let word = word_at(self.floods.as_slice(), begin.saturating_add(place))
-                & word_at(new, start.saturating_add(place));
+            let word = word_at(self.floods.as_slice(), begin.wrapping_add(place))
+                & word_at(new, start.wrapping_add(place));
             if word != 0 {
-                self.flood_word(gates, bar, begin, place, word)?;
+                self.flood_word(bar, begin, place, word)?;
             }
         }
         Ok(())
@@ -241,7 +271,6 @@ impl Known {
     /// The same from the groups in this word, which stands at this place of a row.
     fn flood_word(
         &mut self,
-        gates: &Gates,
         bar: &Bar,
         begin: usize,
         place: usize,
@@ -251,7 +280,7 @@ impl Known {
             let Some(group) = take_group(&mut word, place) else {
                 return Ok(());
             };
-            self.flood_from(gates, bar, begin, group)?;
+            self.flood_from(bar, begin, group)?;
         }
         Ok(())
     }

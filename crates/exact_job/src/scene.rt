@@ -22,13 +22,13 @@ impl<'a> Scene<'a> {
     pub fn mask(&self, gate: u32) -> &[u64] {
         part(
             self.masks,
-            (gate as usize).saturating_mul(self.width),
+            (gate as usize).wrapping_mul(self.width),
             self.width,
         )
     }
 
     /// What the row of the gate with this number got last.
     pub fn more_of(&self, gate: usize) -> &[u64] {
-        part(self.more, gate.saturating_mul(self.width), self.width)
+        part(self.more, gate.wrapping_mul(self.width), self.width)
     }
 }

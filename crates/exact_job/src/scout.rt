@@ -2,30 +2,32 @@
 //! before it counts.
 
 use crate::cells::{Cell, NONE, Way, short};
-use crate::cones::Cone;
+use crate::cones::{Cone, End, end_at};
 use crate::known::first_of;
 use crate::marks::Marks;
 use crate::scene::Scene;
 use crate::traces::{Growth, Level, Trace};
 use crate::tracks::Tracks;
-use crate::words::{drop_at, has_any, has_at, meet};
+use crate::words::{drop_at, has_any, has_at, meet, put_both, start_of};
 use gate_floods::gate_masks::gate::Gate;
 use gate_floods::row_judge::words::part;
-use sight_names::{Memory, Pt};
+use sight_names::Memory;
 use std::alloc::Global;
 
 /// More than any walk's steps.
 const STEPS: u64 = 1_000_000_000_000;
 
-/// Where a search is: behind which gate of its trace, behind how many, and where the row of what is wanted there begins.
+/// No number of a gate of a trace: the way doesn't lead on.
+const STOP: u32 = 4_294_967_293;
+
+/// Where a search is: behind which gate of its trace, and behind how many. So many rows of what is wanted are before the one there.
 #[derive(Clone, Copy)]
 struct Spot {
     entry: u32,
     depth: u32,
-    row: u32,
 }
 
-/// Where a search goes on: by which half-edge, and where it is then.
+/// Where a search goes on: by which half-edge, and where it is then. None is a half-edge that isn't there.
 #[derive(Clone, Copy)]
 struct Head {
     edge: u32,
@@ -37,9 +39,18 @@ struct Head {
 struct Fork {
     head: Head,
     cone: Cone,
-    apex: Pt,
+    apex: End,
     lefts: u32,
     rights: u32,
+}
+
+/// Where a search goes on by this half-edge, behind so many gates, of which this one is the last.
+#[inline(always)]
+fn head_by(edge: u32, entry: u32, depth: u32) -> Head {
+    Head {
+        edge,
+        spot: Spot { entry, depth },
+    }
 }
 
 /// What a search goes by: what all searches share, the group that it begins in, what is wanted, and what was met before.
@@ -61,8 +72,8 @@ pub struct Searched {
 /// A search's buffers, which are used again from group to group.
 #[derive(Drop)]
 pub struct Scout {
-    lefts: Vec<Pt>,
-    rights: Vec<Pt>,
+    lefts: Vec<End>,
+    rights: Vec<End>,
     forks: Vec<Fork>,
     /// Rows of what is still wanted, one for each gate on the way, each behind the one that it is part of.
     rows: Vec<u64>,
@@ -146,14 +157,18 @@ impl Scout {
         let top = Spot {
             entry: NONE,
             depth: 0,
-            row: 0,
         };
-        let Some(spot) = self.ask(search, top, number)? else {
+        let entry = self.ask(search, top, number)?;
+        if entry == STOP {
             return Ok(());
+        }
+        let (left, right) = (end_at(gate.left_at), end_at(gate.right_at));
+        self.begin(left, right)?;
+        let head = Head {
+            edge: *door,
+            spot: Spot { entry, depth: 0 },
         };
-        self.begin(gate)?;
-        let cone = Cone::of(gate.left_at, gate.right_at);
-        self.go_through(search, number, Head { edge: *door, spot }, cone)
+        self.go_through(search, number, head, Cone::of(left, right))
     }
 
     /// Goes on through the gate with this number until no way is left.
@@ -164,55 +179,54 @@ impl Scout {
         mut head: Head,
         mut cone: Cone,
     ) -> Result<(), Memory> {
+        let cells = search.scene.cells.cells.as_slice();
         for _ in 0..STEPS {
-            let Some(cell) = search.scene.cells.cells.get(head.edge as usize) else {
+            let Some(cell) = cells.get(head.edge as usize) else {
                 return Ok(());
             };
             if cell.gate != NONE {
                 head.spot = self.enter(search, number, cell, &cone, head.spot)?;
             }
-            let next = self.go_on(search, cell, &mut cone, head.spot)?;
-            let Some(next) = self.or_back(next, &mut cone)? else {
-                return Ok(());
-            };
-            head = next;
+            head = self.go_on(search, cell, &mut cone, head.spot)?;
+            if head.edge == NONE {
+                head = self.go_back(&mut cone)?;
+            }
         }
         Ok(())
     }
 
     /// Asks whether the gate leads on: one that was met before does where something behind it is to be looked at again, another
-    /// one where something that is wanted may be seen behind it. Then where the search is behind it.
+    /// one where something that is wanted may be seen behind it. Then its number in the trace.
     #[inline(always)]
-    fn ask(&mut self, search: &Search<'_>, spot: Spot, gate: u32) -> Result<Option<Spot>, Memory> {
-        let wanted = part(self.rows.as_slice(), spot.row as usize, search.scene.width);
+    fn ask(&mut self, search: &Search<'_>, spot: Spot, gate: u32) -> Result<u32, Memory> {
+        let width = search.scene.width;
+        let wanted = part(
+            self.rows.as_slice(),
+            start_of(spot.depth as usize, width),
+            width,
+        );
         let Some(level) = self.levels.get_mut(spot.depth as usize) else {
-            return Ok(None);
+            return Ok(STOP);
         };
-        let entry = if level.next == NONE {
+        if level.next == NONE {
             let open = meet(wanted, search.scene.mask(gate), &mut self.hint);
             let number = self.growth.note(search.before, level, gate, open)?;
-            if open { Some(number) } else { None }
-        } else {
-            let live = self.marks.live.as_slice();
-            self.growth.meet_again(search.before, level, live)?
-        };
-        Ok(match entry {
-            Some(entry) => Some(Spot {
-                entry,
-                depth: spot.depth,
-                row: spot.row,
-            }),
-            None => None,
-        })
+            return Ok(if open { number } else { STOP });
+        }
+        let live = self.marks.live.as_slice();
+        match self.growth.meet_again(search.before, level, live)? {
+            Some(number) => Ok(number),
+            None => Ok(STOP),
+        }
     }
 
-    /// Begins with the ends of the gate.
-    fn begin(&mut self, gate: &Gate) -> Result<(), Memory> {
+    /// Begins with the ends of a gate.
+    fn begin(&mut self, left: End, right: End) -> Result<(), Memory> {
         self.lefts.clear();
         self.rights.clear();
         self.forks.clear();
-        self.lefts.push(gate.left_at)?;
-        self.rights.push(gate.right_at)?;
+        self.lefts.push(left)?;
+        self.rights.push(right)?;
         Ok(())
     }
 
@@ -228,22 +242,38 @@ impl Scout {
         spot: Spot,
     ) -> Result<Spot, Memory> {
         let scene = search.scene;
-        let row = spot.row as usize;
         // the present row may have been made before another way found the group
         if has_at(self.rows.as_slice(), 0, cell.far) {
-            let gates = scene.gates.gates.as_slice();
-            self.tracks
-                .follow(scene.cells, gates, root as usize, cone.between())?;
-            self.drop_from_all(scene.width, row, cell.far);
+            self.find(search, root, cell.far, cone, spot)?;
         }
+        let row = start_of(spot.depth as usize, scene.width);
         self.put_met(row, scene.width, scene.mask(cell.gate))?;
-        let depth = spot.depth.saturating_add(1);
+        let depth = spot.depth.wrapping_add(1);
         self.put_level(depth, search.before.behind(spot.entry))?;
         Ok(Spot {
             entry: spot.entry,
             depth,
-            row: short(row.saturating_add(scene.width)),
         })
+    }
+
+    /// Notes a line to the group, which is wanted no more then.
+    // out of line: few nodes lead here
+    #[inline(never)]
+    fn find(
+        &mut self,
+        search: &Search<'_>,
+        root: u32,
+        group: u16,
+        cone: &Cone,
+        spot: Spot,
+    ) -> Result<(), Memory> {
+        let scene = search.scene;
+        let gates = scene.gates.gates.as_slice();
+        self.tracks
+            .follow(scene.cells, gates, root as usize, cone.between())?;
+        let row = start_of(spot.depth as usize, scene.width);
+        self.drop_from_all(scene.width, row, group);
+        Ok(())
     }
 
     /// Puts the level there.
@@ -272,33 +302,27 @@ impl Scout {
     /// Puts behind the row what the mask has of it too.
     #[inline(always)]
     fn put_met(&mut self, row: usize, width: usize, mask: &[u64]) -> Result<(), Memory> {
-        let to = row.saturating_add(width);
-        let end = to.saturating_add(width);
+        let to = row.wrapping_add(width);
+        let end = to.wrapping_add(width);
         if self.rows.len() < end {
             self.rows.resize(end, 0)?;
         }
-        let rows = self.rows.as_mut_slice();
-        if to <= rows.len() && rows.len() - to >= mask.len() && row < to {
-            for place in 0..mask.len() {
-                rows[to + place] = rows[row + place] & mask[place];
-            }
+        if to <= self.rows.len() {
+            let (before, behind) = self.rows.as_mut_slice().split_at_mut(to);
+            put_both(behind, part(before, row, width), mask);
         }
         Ok(())
     }
 
-    /// Whether the way leads on, and where to: not back into the source, and through a gate only as `ask` says.
+    /// Whether the way leads on: not back into the source, and through a gate only as `ask` says. Then the number of the gate in the
+    /// trace behind which it leads.
     #[inline(always)]
-    fn leads_on(
-        &mut self,
-        search: &Search<'_>,
-        spot: Spot,
-        way: &Way,
-    ) -> Result<Option<Spot>, Memory> {
+    fn leads_on(&mut self, search: &Search<'_>, spot: Spot, way: &Way) -> Result<u32, Memory> {
         if way.gate == NONE {
-            return Ok(if way.edge == NONE { None } else { Some(spot) });
+            return Ok(if way.edge == NONE { STOP } else { spot.entry });
         }
         if way.far == search.source {
-            return Ok(None);
+            return Ok(STOP);
         }
         self.ask(search, spot, way.gate)
     }
@@ -311,97 +335,62 @@ impl Scout {
         cell: &Cell,
         cone: &mut Cone,
         spot: Spot,
-    ) -> Result<Option<Head>, Memory> {
-        let to_left = cone.leads_left(cell.apex);
-        let to_right = cone.leads_right(cell.apex);
-        let mut left = None;
+    ) -> Result<Head, Memory> {
+        let apex = end_at(cell.apex);
+        let to_left = cone.leads_left(apex);
+        let to_right = cone.leads_right(apex);
+        let mut left = STOP;
         if to_left {
             left = self.leads_on(search, spot, &cell.left)?;
         }
-        let mut right = None;
+        let mut right = STOP;
         if to_right {
             right = self.leads_on(search, spot, &cell.right)?;
         }
-        match (left, right) {
-            (Some(there), other) => {
-                if let Some(other) = other {
-                    self.put_fork(cell, cone, other)?;
-                }
-                self.turn_left(cell, cone, to_right, there)
+        if left != STOP {
+            if right != STOP {
+                self.put_fork(head_by(cell.right.edge, right, spot.depth), cone, apex)?;
             }
-            (None, Some(there)) => self.turn_right(cell, cone, to_left, there),
-            (None, None) => Ok(None),
+            if to_right {
+                cone.turn_second(self.lefts.as_slice(), apex);
+            }
+            self.rights.push(apex)?;
+            return Ok(head_by(cell.left.edge, left, spot.depth));
         }
+        if right != STOP {
+            if to_left {
+                cone.turn_first(self.rights.as_slice(), apex);
+            }
+            self.lefts.push(apex)?;
+            return Ok(head_by(cell.right.edge, right, spot.depth));
+        }
+        Ok(head_by(NONE, STOP, 0))
     }
 
-    /// Goes on by the left way out.
+    /// Lets a right way wait.
     #[inline(always)]
-    fn turn_left(
-        &mut self,
-        cell: &Cell,
-        cone: &mut Cone,
-        to_right: bool,
-        spot: Spot,
-    ) -> Result<Option<Head>, Memory> {
-        if to_right {
-            cone.turn_second(self.lefts.as_slice(), cell.apex);
-        }
-        self.rights.push(cell.apex)?;
-        Ok(Some(Head {
-            edge: cell.left.edge,
-            spot,
-        }))
-    }
-
-    /// Goes on by the right way out.
-    #[inline(always)]
-    fn turn_right(
-        &mut self,
-        cell: &Cell,
-        cone: &mut Cone,
-        to_left: bool,
-        spot: Spot,
-    ) -> Result<Option<Head>, Memory> {
-        if to_left {
-            cone.turn_first(self.rights.as_slice(), cell.apex);
-        }
-        self.lefts.push(cell.apex)?;
-        Ok(Some(Head {
-            edge: cell.right.edge,
-            spot,
-        }))
-    }
-
-    /// Lets the right way wait.
-    #[inline(always)]
-    fn put_fork(&mut self, cell: &Cell, cone: &Cone, spot: Spot) -> Result<(), Memory> {
+    fn put_fork(&mut self, head: Head, cone: &Cone, apex: End) -> Result<(), Memory> {
         self.forks.push(Fork {
-            head: Head {
-                edge: cell.right.edge,
-                spot,
-            },
+            head,
             cone: *cone,
-            apex: cell.apex,
+            apex,
             lefts: short(self.lefts.len()),
             rights: short(self.rights.len()),
         })?;
         Ok(())
     }
 
-    /// Where nothing leads on, goes back to the last way that waits, if one does, and on by it: the point there is a left end.
+    /// Goes back to the last way that waits, if one does, and on by it: the point there is a left end.
     #[inline(always)]
-    fn or_back(&mut self, next: Option<Head>, cone: &mut Cone) -> Result<Option<Head>, Memory> {
-        if next.is_some() {
-            return Ok(next);
-        }
+    fn go_back(&mut self, cone: &mut Cone) -> Result<Head, Memory> {
         let Some(fork) = self.forks.pop() else {
-            return Ok(None);
+            return Ok(head_by(NONE, STOP, 0));
         };
         self.lefts.truncate(fork.lefts as usize);
         self.rights.truncate(fork.rights as usize);
         *cone = fork.cone;
         cone.turn_first(self.rights.as_slice(), fork.apex);
         self.lefts.push(fork.apex)?;
-        Ok(Some(fork.head))
+        Ok(fork.head)
     }
 }

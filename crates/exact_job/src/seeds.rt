@@ -2,7 +2,6 @@
 
 use crate::cells::Cells;
 use crate::cones::{Line, narrow};
-use crate::known::Known;
 use crate::pairs::Pairs;
 use crate::tracks::Tracks;
 use gate_floods::gate_masks::gate::Gate;
@@ -77,7 +76,6 @@ fn try_line(
     gates: &[Gate],
     gate: usize,
     number: u64,
-    known: &Known,
     tracks: &mut Tracks,
     pairs: &mut Pairs,
 ) -> Result<(), Memory> {
@@ -88,7 +86,7 @@ fn try_line(
     if line.level(one.left_at) > 0 && line.level(one.right_at) < 0 {
         tracks.clear();
         tracks.follow(cells, gates, gate, line)?;
-        pairs.join_all(known, tracks)?;
+        pairs.join_all(tracks)?;
     }
     Ok(())
 }
@@ -98,7 +96,6 @@ pub fn try_lines(
     alloc: Global,
     cells: &Cells,
     gates: &[Gate],
-    known: &Known,
     pairs: &mut Pairs,
 ) -> Result<(), Memory> {
     let mut tracks = Tracks::new(alloc);
@@ -106,7 +103,7 @@ pub fn try_lines(
     for gate in 0..gates.len() {
         for _ in 0..TRIED {
             number = next_number(number);
-            try_line(cells, gates, gate, number, known, &mut tracks, pairs)?;
+            try_line(cells, gates, gate, number, &mut tracks, pairs)?;
         }
     }
     Ok(())

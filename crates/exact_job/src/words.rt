@@ -9,15 +9,15 @@ pub fn zeros(alloc: Global, count: usize) -> Result<Vec<u64>, Memory> {
     Ok(vec![in alloc; 0; count]?)
 }
 
-/// How many words a row of so many groups takes.
+/// How many words a row of so many groups takes: a number that four divides, since loops take so many words at once.
 pub fn width_of(count: u16) -> usize {
-    (count as usize).div_ceil(64)
+    (count as usize).div_ceil(256).wrapping_mul(4)
 }
 
 /// Where the row with this number begins.
 #[inline(always)]
 pub fn start_of(number: usize, width: usize) -> usize {
-    number.saturating_mul(width)
+    number.wrapping_mul(width)
 }
 
 /// The row with this number.
@@ -29,7 +29,7 @@ pub fn row_with(words: &[u64], number: usize, width: usize) -> &[u64] {
 /// Whether the row at this place has the group.
 #[inline(always)]
 pub fn has_at(words: &[u64], at: usize, group: u16) -> bool {
-    match words.get(at.saturating_add(group as usize / 64)) {
+    match words.get(at.wrapping_add(group as usize / 64)) {
         Some(word) => (*word >> (group % 64)) & 1 == 1,
         None => false,
     }
@@ -37,7 +37,7 @@ pub fn has_at(words: &[u64], at: usize, group: u16) -> bool {
 
 /// Puts the group into the row at this place.
 pub fn put_at(words: &mut [u64], at: usize, group: u16) {
-    let place = at.saturating_add(group as usize / 64);
+    let place = at.wrapping_add(group as usize / 64);
     if place < words.len() {
         words[place] |= 1 << (group % 64);
     }
@@ -45,7 +45,7 @@ pub fn put_at(words: &mut [u64], at: usize, group: u16) {
 
 /// Takes the group out of the row at this place.
 pub fn drop_at(words: &mut [u64], at: usize, group: u16) {
-    let place = at.saturating_add(group as usize / 64);
+    let place = at.wrapping_add(group as usize / 64);
     if place < words.len() {
         words[place] &= !(1 << (group % 64));
     }
@@ -58,6 +58,14 @@ pub fn join_at(words: &mut [u64], at: usize, other: &[u64]) {
     }
     for place in 0..other.len() {
         words[at + place] |= other[place];
+    }
+}
+
+/// Puts what both rows have in place of these words.
+#[inline(always)]
+pub fn put_both(words: &mut [u64], one: &[u64], other: &[u64]) {
+    for place in 0..words.len().min(one.len()).min(other.len()) {
+        words[place] = one[place] & other[place];
     }
 }
 
