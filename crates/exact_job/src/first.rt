@@ -2,6 +2,7 @@
 //!
 //! Nothing is proved of what it finds: each ray is judged before it counts, and what it misses the rounds behind it find.
 
+use crate::by_pairs::by_pairs;
 use crate::cells::Cells;
 use crate::known::Known;
 use crate::pairs::Pairs;
@@ -209,5 +210,5 @@ pub fn first_rays<W: Walkers>(
     search_rounds(
         walkers, alloc, &cells, &gates, &mut known, sought, wanted, &mut pairs,
     )?;
-    Ok(pairs.rays)
+    by_pairs(alloc, pairs.rays, plan.sectors)
 }

@@ -7,6 +7,7 @@
 
 mod bars;
 mod build;
+mod by_pairs;
 mod cells;
 mod cones;
 mod first;
