@@ -1,5 +1,6 @@
 -- What is found: a sight ray leads there, and the row that was wanted has it.
 use Rattle.std.proofs.Common.{◌≡◌, ◌≢◌, ℕ, ◌<◌, ◌≤◌, inl, inr, List, [], ◌∷◌, ◌++◌, Option, Some, None, Bool, true, false, Contains, length, slice_get, if◌then◌else◌, refl, sym, ◌∙◌, ap, subst, arith, ℤ}
+use Rattle.std.specs.Prelude.{option_and_then}
 use Rattle.std.proofs.lemmas.List.Elements.{All-push}
 use Rattle.std.proofs.lemmas.Option.{slice_get_within}
 use Rattle.math_base.proofs.Bools.{not_both_values}
@@ -29,7 +30,7 @@ use Rattle.gate_floods.specs.declared.row_judge.walk.RowWalk.{RowWalk}
 use Rattle.gate_floods.specs.RowJudge.Words.{row_at, is_in, is_away}
 use Rattle.gate_floods.specs.RowJudge.Asked.{Pending}
 use Rattle.gate_floods.specs.RowJudge.Judged.{StandsAt}
-use Rattle.row_trees.specs.Finding.{wanted_in, IsAlong}
+use Rattle.row_trees.specs.Finding.{had_in, wanted_in, IsAlong}
 use Rattle.row_trees.specs.Walkable.{Scene, Search, IsWalkable}
 use Rattle.row_trees.specs.Thinner.{IsWithin, IsPresent, AreThinner, SameButRows, AreThinned}
 use Rattle.row_trees.specs.Left.{most, weight}
@@ -41,15 +42,38 @@ use Rattle.row_trees.proofs.Going.{HeadOf, head_of, come_thinned}
 
 -- ---- the sector that is wanted
 
-pub wanted_some : (rows : List ℕ) (w at : ℕ) (o : Option ℕ) (to : ℕ) → wanted_in rows w at o ≡ Some to → (o ≡ Some to) × (is_in (row_at rows w at) to ≡ true)
-wanted_some rows w at None to e = absurd (none_is_not_some to e)
-wanted_some rows w at (Some b) to e = by (is_in (row_at rows w at) b) refl
+had_some : (rows : List ℕ) (w at : ℕ) (o : Option ℕ) (to : ℕ) → had_in rows w at o ≡ Some to → (o ≡ Some to) × (is_in (row_at rows w at) to ≡ true)
+had_some rows w at None to e = absurd (none_is_not_some to e)
+had_some rows w at (Some b) to e = by (is_in (row_at rows w at) b) refl
   where
     by : (t : Bool) → is_in (row_at rows w at) b ≡ t → ◌≡◌ {A = Option ℕ} (Some b) (Some to) × (is_in (row_at rows w at) to ≡ true)
     by true h =
         let same : b ≡ to = some_is_same b to (sym (ap (λ (d : Bool). let o : Option ℕ = if d then Some b else None in o) h) ∙ e) in
         (ap (λ (n : ℕ). let o : Option ℕ = Some n in o) same, subst (λ (n : ℕ). is_in (row_at rows w at) n ≡ true) same h)
     by false h = absurd (none_is_not_some to (sym (ap (λ (d : Bool). let o : Option ℕ = if d then Some b else None in o) h) ∙ e))
+
+pub wanted_some : (rows : List ℕ) (w at : ℕ) (x : HalfEdge) (to : ℕ) → wanted_in rows w at x ≡ Some to → (x.sector ≡ Some to) × (is_in (row_at rows w at) to ≡ true)
+wanted_some rows w at x to e = by x.entered refl
+  where
+    by : (o : Option Side) → x.entered ≡ o → (x.sector ≡ Some to) × (is_in (row_at rows w at) to ≡ true)
+    by None h = absurd (none_is_not_some to (sym (ap (option_and_then (λ (d : Side). had_in rows w at x.sector)) h) ∙ e))
+    by (Some d) h = had_some rows w at x.sector to (sym (ap (option_and_then (λ (d : Side). had_in rows w at x.sector)) h) ∙ e)
+
+had_none : (rows : List ℕ) (w at : ℕ) (o : Option ℕ) → had_in rows w at o ≡ None → is_away (row_at rows w at) o ≡ true
+had_none rows w at None e = refl
+had_none rows w at (Some b) e = by (is_in (row_at rows w at) b) refl
+  where
+    by : (t : Bool) → is_in (row_at rows w at) b ≡ t → is_away (row_at rows w at) (Some b) ≡ true
+    by true h = absurd (none_is_not_some b (sym e ∙ ap (λ (d : Bool). let o : Option ℕ = if d then Some b else None in o) h))
+    by false h = away_of (row_at rows w at) b h
+
+-- where none is wanted, the row doesn't have the sector; behind a half-edge of no line it never does
+pub wanted_none : (rows : List ℕ) (w at : ℕ) (x : HalfEdge) → (x.entered ≡ None → is_away (row_at rows w at) x.sector ≡ true) → wanted_in rows w at x ≡ None → is_away (row_at rows w at) x.sector ≡ true
+wanted_none rows w at x away e = by x.entered refl
+  where
+    by : (o : Option Side) → x.entered ≡ o → is_away (row_at rows w at) x.sector ≡ true
+    by None h = away h
+    by (Some d) h = had_none rows w at x.sector (sym (ap (option_and_then (λ (d : Side). had_in rows w at x.sector)) h) ∙ e)
 
 pub away_in : (row : List ℕ) (o : Option ℕ) (c : ℕ) → o ≡ Some c → is_in row c ≡ false → is_away row o ≡ true
 away_in row o c e h = ap (is_away row) e ∙ away_of row c h
@@ -128,6 +152,13 @@ module _ (c : Scene) (s : Search) where
     }
 
   -- ---- what is needed for the ray
+
+  -- ---- what isn't wanted
+
+  pub none_wanted : (root : ℕ) (ends : List EndPoints) (w : RowWalk) (found : List Reached) (x : HalfEdge) (n : ℕ) → IsTried c s root ends w found x n → wanted_in w.rows.items c.masks.width w.follow.row x ≡ None → is_away (row_at w.rows.items c.masks.width w.follow.row) x.sector ≡ true
+  none_wanted root ends w found x n t =
+      let h = head_of c s root ends w found x n t in
+      wanted_none w.rows.items c.masks.width w.follow.row x (λ none. subst (λ (row : List ℕ). is_away row x.sector ≡ true) h.row_is (h.away none))
 
   -- ---- what was found before, and this sector
 

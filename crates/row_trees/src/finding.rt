@@ -21,11 +21,13 @@ fn side_left(edges: &HalfEdges, number: Option<u32>) -> Option<Side>
     })
 }
 
-/// The sector into which one comes by this half-edge, if the walk's present row has it.
+/// The sector into which one comes by this half-edge through a line, if the walk's present row has it.
+// most half-edges are of no line, and then the row isn't looked at
 #[inline(always)]
 pub fn wanted(walk: &RowWalk, width: usize, edge: &HalfEdge) -> Option<u16>
-    ensures { result ≡ wanted_in walk.now.rows.items width walk.now.follow.row edge.now.sector }
+    ensures { result ≡ wanted_in walk.now.rows.items width walk.now.follow.row edge.now }
 {
+    let _ = edge.entered?;
     let to = edge.sector?;
     if has(part(walk.rows.as_slice(), walk.follow.row, width), to) {
         Some(to)

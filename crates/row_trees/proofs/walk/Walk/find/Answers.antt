@@ -4,8 +4,13 @@ use Rattle.gate_floods.specs.RowJudge.Words.{row_at}
 use Rattle.row_trees.specs.Going.{IsTried}
 use Rattle.row_trees.specs.Walkable.{scene_of}
 use Rattle.row_trees.proofs.Thin.{out_of}
-use Rattle.row_trees.proofs.Found.{wanted_some, away_in, found_more, split_along, range_along}
+use Rattle.row_trees.proofs.Found.{wanted_some, away_in, found_more, none_wanted, split_along, range_along}
 use Rattle.row_trees.proofs.walk.Walk.find.Goals as goal
+
+pub returns-in_default-clause-away : goal.returns-in_default-clause-away
+returns-in_default-clause-away c =
+    let t = c.requires.tried in
+    none_wanted (scene_of c.args.terrain.now c.args.masks.now) t.0 c.args.self.now.root t.2 c.args.self.now.judged c.args.made.now.found.items c.args.edge.now t.1 t.4 (sym c.wanted.ensures ∙ c.in_default.is)
 
 pub returns-clause-tried : goal.returns-clause-tried
 returns-clause-tried c = λ s n before e t.
@@ -18,7 +23,7 @@ returns-clause-tried c = λ s n before e t.
     let along = c.reached-reached.ensures in
     subst (λ (rs : List Reached). IsTried k s w.root before c.forget.new.walk rs x n) (sym c.in_ok-push.ensures.items)
     (found_more k s w.root before w.judged c.forget.new.walk found x n t c.in-Some.to
-    (wanted_some w.judged.rows.items c.args.masks.now.width w.judged.follow.row x.sector c.in-Some.to (sym c.wanted.ensures ∙ c.in-Some.is)) r along.along
+    (wanted_some w.judged.rows.items c.args.masks.now.width w.judged.follow.row x c.in-Some.to (sym c.wanted.ensures ∙ c.in-Some.is)) r along.along
     (split_along w.ends _ line.0 line.1 line.2 r.ray.a r.ray.b r.ray.c e along.line.0 along.line.1 along.line.2 c.line-line.ensures.splits) (range_along line.0 line.1 line.2 r.ray.a r.ray.b r.ray.c along.line.0 along.line.1 along.line.2 c.line-line.ensures.range)
     c.forget.ensures.same c.forget.ensures.thinner c.forget.ensures.gone c.forget.ensures.present)
 
@@ -28,5 +33,5 @@ returns-clause-away c =
     let width = c.args.masks.now.width in
     let new = c.forget.new.walk in
     away_in (row_at new.rows.items width new.follow.row) c.args.edge.now.sector c.in-Some.to
-    (wanted_some w.judged.rows.items width w.judged.follow.row c.args.edge.now.sector c.in-Some.to (sym c.wanted.ensures ∙ c.in-Some.is)).0
+    (wanted_some w.judged.rows.items width w.judged.follow.row c.args.edge.now c.in-Some.to (sym c.wanted.ensures ∙ c.in-Some.is)).0
     (out_of (row_at new.rows.items width new.follow.row) (row_at new.rows.items width 0) c.in-Some.to c.forget.ensures.present c.forget.ensures.gone)
