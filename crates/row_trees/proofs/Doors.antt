@@ -1,5 +1,5 @@
 -- A portal that has an end of the last one.
-use Rattle.std.proofs.Common.{◌≡◌, ◌≢◌, ◌-◌, ◌⊎◌, ◌&&◌, Bool, true, false, ℤ, inl, inr, List, [], ◌∷◌, ◌++◌, Option, Some, None, length, map, option_map, slice_get, refl, sym, ap, ◌∙◌, subst, arith, ℕ}
+use Rattle.std.proofs.Common.{◌≡◌, ◌≢◌, ◌-◌, ◌&&◌, true, false, ℤ, inl, inr, List, [], ◌∷◌, ◌++◌, Some, None, length, map, option_map, slice_get, refl, sym, ap, ◌∙◌, subst, arith, ℕ}
 use Rattle.std.specs.Ordering.{int_eq}
 use borrow.Author.Differences.{ints}
 use Rattle.std.proofs.lemmas.List.{length-map, map_push}

@@ -1,5 +1,5 @@
 -- Words and rows out of which bits were taken.
-use Rattle.std.proofs.Common.{◌≡◌, ℕ, zero, ◌+◌, ◌*◌, ◌/◌, ◌%◌, ◌^◌, ◌<◌, ◌≤◌, ◌⊎◌, inl, inr, min, List, drop, Option, Some, None, Bool, true, false, not, length, slice_index, slice_set, bit_and, refl, sym, ◌∙◌, ap, subst, arith, length-set}
+use Rattle.std.proofs.Common.{◌≡◌, ℕ, ◌+◌, ◌*◌, ◌/◌, ◌%◌, ◌^◌, ◌<◌, ◌≤◌, ◌⊎◌, inl, inr, min, List, drop, Option, Some, None, Bool, true, false, not, length, slice_index, slice_set, bit_and, refl, sym, ◌∙◌, ap, subst, arith, length-set}
 use Rattle.std.specs.Int.{bit_at, bit_not, w64}
 use mir.Val.{bits}
 use Rattle.std.proofs.lemmas.Nat.Bits.{bit_at-lt, bit_at-zero, bit_at_and, bit_at_clear_same}

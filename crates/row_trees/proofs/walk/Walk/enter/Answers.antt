@@ -1,4 +1,3 @@
-use Rattle.std.proofs.Common.{ℕ}
 use Rattle.block_evidence.specs.declared.sight_tree.Node.TheVariants.{Open}
 use Rattle.gate_floods.specs.RowJudge.Judged.{tree_of}
 use Rattle.gate_floods.specs.RowJudge.Masks.{rows_of}
