@@ -210,7 +210,8 @@ DOOMSIGHT_HOLDS(sizeof(doomsight_fault) == 32 && sizeof(doomsight_counts) == 40 
  * 3. A library that doesn't know it refuses it with DOOMSIGHT_BAD_BUDGET. */
 #define DOOMSIGHT_EXACT (UINT64_MAX - 1)
 
-/* UDMF is the format of the lumps that doomsight_udmf_map writes: Doom's, but that the coordinates in VERTEXES have 32 bits. */
+/* UDMF is the format of the lumps that doomsight_udmf_map writes: Doom's, but that the coordinates in VERTEXES have 32 bits.
+ * It writes none that is farther than 2^25 from 0. In VERTEXES of other origin such a coordinate isn't refused: it counts as 0. */
 enum doomsight_format { DOOMSIGHT_DOOM = 0, DOOMSIGHT_HEXEN = 1, DOOMSIGHT_UDMF = 2 };
 
 /* Flags. LARGE is the program's --large: at most 16384 sectors, 32768 lines and 16383 points. */
