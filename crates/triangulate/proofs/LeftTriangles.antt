@@ -42,9 +42,10 @@ neighbour_in segs k s n e = (
 -- ---- one way along a segment
 
 pub added_each : (m : Map) (segs : List Segment) (a b : ℕ) (old new : List Triangle) → IsNeighbour segs a b → IsLeftAdded m segs a b old new → ((t : Triangle) → Contains old t → IsLeftTriangle m segs t) → (t : Triangle) → Contains new t → IsLeftTriangle m segs t
+added_each m segs a b old new neighbour (inr (inl h)) each t c = each t (subst (λ (xs : List Triangle). Contains xs t) h.0 c)
 added_each m segs a b old new neighbour (inl h) each t c = each t (subst (λ (xs : List Triangle). Contains xs t) h.0 c)
-added_each m segs a b old new neighbour (inr (x, first, inr h)) each t c = each t (subst (λ (xs : List Triangle). Contains xs t) h.0 c)
-added_each m segs a b old new neighbour (inr (x, first, inl h)) each t c = elim (Contains-append_cases old (record { p = a; q = b; r = x } ∷ []) t (subst (λ (xs : List Triangle). Contains xs t) h.2 c)) as (λ _. IsLeftTriangle m segs t) [
+added_each m segs a b old new neighbour (inr (inr (x, first, inr h))) each t c = each t (subst (λ (xs : List Triangle). Contains xs t) h.0 c)
+added_each m segs a b old new neighbour (inr (inr (x, first, inl h))) each t c = elim (Contains-append_cases old (record { p = a; q = b; r = x } ∷ []) t (subst (λ (xs : List Triangle). Contains xs t) h.2 c)) as (λ _. IsLeftTriangle m segs t) [
   | inl o ↦ each t o
   | inr n ↦ elim (contains_cases (record { p = a; q = b; r = x }) t [] n) as (λ _. IsLeftTriangle m segs t) [
     | inl e ↦ subst (IsLeftTriangle m segs) e (record { least = h.0; least_too = h.1; neighbour = neighbour; first = first })
@@ -53,18 +54,21 @@ added_each m segs a b old new neighbour (inr (x, first, inl h)) each t c = elim 
 ]
 
 pub added_keeps : (m : Map) (segs : List Segment) (a b : ℕ) (old new : List Triangle) → IsLeftAdded m segs a b old new → (t : Triangle) → Contains old t → Contains new t
+added_keeps m segs a b old new (inr (inl h)) t c = subst (λ (xs : List Triangle). Contains xs t) (sym h.0) c
 added_keeps m segs a b old new (inl h) t c = subst (λ (xs : List Triangle). Contains xs t) (sym h.0) c
-added_keeps m segs a b old new (inr (x, first, inr h)) t c = subst (λ (xs : List Triangle). Contains xs t) (sym h.0) c
-added_keeps m segs a b old new (inr (x, first, inl h)) t c = subst (λ (xs : List Triangle). Contains xs t) (sym h.2) (Contains-append_left old (record { p = a; q = b; r = x } ∷ []) t c)
+added_keeps m segs a b old new (inr (inr (x, first, inr h))) t c = subst (λ (xs : List Triangle). Contains xs t) (sym h.0) c
+added_keeps m segs a b old new (inr (inr (x, first, inl h))) t c = subst (λ (xs : List Triangle). Contains xs t) (sym h.2) (Contains-append_left old (record { p = a; q = b; r = x } ∷ []) t c)
 
 pub added_has : (m : Map) (segs : List Segment) (a b : ℕ) (old new : List Triangle) → IsLeftAdded m segs a b old new → HasLeftTriangle m segs new a b
 added_has m segs a b old new (inl h) = inl h.1
-added_has m segs a b old new (inr (x, first, inr h)) = inr (x, first, λ ab ax. absurd (h.1 (ab, ax)))
-added_has m segs a b old new (inr (x, first, inl h)) = inr (x, first, λ ab ax. subst (λ (xs : List Triangle). Contains xs (record { p = a; q = b; r = x })) (sym h.2) (Contains-append_right old (record { p = a; q = b; r = x } ∷ []) (record { p = a; q = b; r = x }) (contains_here (record { p = a; q = b; r = x }) [])))
+added_has m segs a b old new (inr (inl h)) = inr (inl h.1)
+added_has m segs a b old new (inr (inr (x, first, inr h))) = inr (inr (x, first, λ ab ax. absurd (h.1 (ab, ax))))
+added_has m segs a b old new (inr (inr (x, first, inl h))) = inr (inr (x, first, λ ab ax. subst (λ (xs : List Triangle). Contains xs (record { p = a; q = b; r = x })) (sym h.2) (Contains-append_right old (record { p = a; q = b; r = x } ∷ []) (record { p = a; q = b; r = x }) (contains_here (record { p = a; q = b; r = x }) []))))
 
 left_stays : (m : Map) (segs : List Segment) (a b : ℕ) (old new : List Triangle) → ((t : Triangle) → Contains old t → Contains new t) → HasLeftTriangle m segs old a b → HasLeftTriangle m segs new a b
 left_stays m segs a b old new keeps (inl h) = inl h
-left_stays m segs a b old new keeps (inr (x, first, h)) = inr (x, first, λ ab ax. keeps (record { p = a; q = b; r = x }) (h ab ax))
+left_stays m segs a b old new keeps (inr (inl h)) = inr (inl h)
+left_stays m segs a b old new keeps (inr (inr (x, first, h))) = inr (inr (x, first, λ ab ax. keeps (record { p = a; q = b; r = x }) (h ab ax)))
 
 -- ---- the triangles of the first so many segments
 

@@ -151,11 +151,12 @@ module _ (m : Map) (f : PointFacts m) (ends : LinesMeetAtEnds m) (segs : List Se
       }) tri
 
   has_left : (ts : List Triangle) (t : Triangle) → IsMeshTriangle m (map edge_of segs) t → HasLeftTriangle m segs ts t.p t.q → Contains ts t
-  has_left ts t h (inl none) = absurd (none t.r (in_neighbour t.p t.r tri.ac) (turn_of t.p t.q t.r tri.turn))
+  has_left ts t h (inl below) = absurd (below h.numbers.least)
+  has_left ts t h (inr (inl none)) = absurd (none t.r (in_neighbour t.p t.r tri.ac) (turn_of t.p t.q t.r tri.turn))
     where
       tri : NetTri m f ends (map edge_of segs) g t.p t.q t.r
       tri = net_tri m f ends (map edge_of segs) g t h
-  has_left ts t h (inr (c, first, there)) = subst (Contains ts) (λ i. record { p = t.p; q = t.q; r = same i }) (there h.numbers.least (subst (λ (x : ℕ). t.p < x) (sym same) h.numbers.least_too))
+  has_left ts t h (inr (inr (c, first, there))) = subst (Contains ts) (λ i. record { p = t.p; q = t.q; r = same i }) (there h.numbers.least (subst (λ (x : ℕ). t.p < x) (sym same) h.numbers.least_too))
     where
       tri : NetTri m f ends (map edge_of segs) g t.p t.q t.r
       tri = net_tri m f ends (map edge_of segs) g t h

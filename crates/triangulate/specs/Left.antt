@@ -16,7 +16,8 @@ pub record IsLeftTriangle (m : Map) (segs : List Segment) (t : Triangle) : Type 
 
 -- the list has the triangle with some first neighbour on the left of the way from a to b, if there is one and a is its least point
 abbrev pub HasLeftTriangle : Map → List Segment → List Triangle → ℕ → ℕ → Type 0
-HasLeftTriangle m segs ts a b = IsNextLeft m segs a b None
+HasLeftTriangle m segs ts a b = ¬ (a < b)
+    ⊎ IsNextLeft m segs a b None
     ⊎ ((c : ℕ) × IsFirstLeft m segs a b c × (a < b → a < c → Contains ts (record { p = a; q = b; r = c })))
 
 -- on both sides of the segment
@@ -25,7 +26,8 @@ HasBothSides m segs ts s = HasLeftTriangle m segs ts s.from s.to × HasLeftTrian
 
 -- just that triangle was added at the end
 abbrev pub IsLeftAdded : Map → List Segment → ℕ → ℕ → List Triangle → List Triangle → Type 0
-IsLeftAdded m segs a b old new = ((new ≡ old) × IsNextLeft m segs a b None)
+IsLeftAdded m segs a b old new = ((new ≡ old) × ¬ (a < b))
+    ⊎ ((new ≡ old) × IsNextLeft m segs a b None)
     ⊎ ((c : ℕ) × IsFirstLeft m segs a b c × (((a < b) × (a < c) × (new ≡ old ++ (record { p = a; q = b; r = c }) ∷ [])) ⊎ ((new ≡ old) × ¬ ((a < b) × (a < c)))))
 
 -- all triangles on the left of the segments, and no others

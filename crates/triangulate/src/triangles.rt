@@ -101,10 +101,13 @@ fn add_left(
     requires second { b < incident.now.points }
     ensures { OnOk result (IsLeftAdded (map_of plan.now) incident.now.segments a b triangles.old.items triangles.new.items) }
 {
+    if a >= b {
+        return Ok(());
+    }
     let Some(c) = next_left(plan, incident, a, b) else {
         return Ok(());
     };
-    if a < b && a < c {
+    if a < c {
         triangles.push(Triangle { p: a, q: b, r: c })?;
     }
     Ok(())

@@ -1,5 +1,5 @@
 -- Neighbours and kept segments: a pair is crossed by one that shares more with it than ends.
-use Rattle.std.proofs.Common.{not, ◌≡◌, ℕ, ◌<◌, ◌≤◌, ◌⊎◌, inl, inr, List, length, get_or, slice_get, Contains, map, Bool, true, false, ◌==◌, cond, Option, Some, option_map, refl, sym, ap, ◌∙◌, subst, arith, eqb-true}
+use Rattle.std.proofs.Common.{not, ◌≡◌, ℕ, ◌<◌, ◌≤◌, ◌⊎◌, inl, inr, List, length, get_or, slice_get, Contains, map, pos, ◌-ℤ◌, Bool, true, false, ◌==◌, cond, Option, Some, option_map, refl, sym, ap, ◌∙◌, subst, arith, eqb-true}
 use Rattle.std.proofs.lemmas.Option.{slice_get-get_or, slice_get-map, slice_get_within, get_or_from_slice_get, same_Some, none-some}
 use Rattle.std.specs.Bool.{OnTrue}
 use Rattle.std.proofs.lemmas.Bool.{cases_eq}
@@ -7,7 +7,12 @@ use Rattle.sight_names.specs.Map.{Map, map_of}
 use Rattle.sight_names.specs.Plan.{PlanParts, IsPlan}
 use Rattle.sight_names.specs.Point.{Point}
 use Rattle.sight_names.specs.Points.{Edge, place}
-use Rattle.sight_names.specs.Sound.{IsCommon}
+use Rattle.sight_names.specs.Sound.{IsCommon, MeetAtEnds}
+use Rattle.sight_names.specs.declared.names.Pt.{Pt}
+use Rattle.geom_exact.specs.Formulas.{turn_of}
+use Rattle.geom_exact.specs.Common.{IsMeeting}
+use Rattle.geom_exact.proofs.RelationLemmas.{turn_at_first, only_of_meeting, end_of_first, end_of_second}
+use Rattle.std.proofs.lemmas.Int.{ints}
 use Rattle.sight_names.specs.Greedy.{EdgesMeetAtEnds}
 use Rattle.sight_names.proofs.Lists.{contains_of_get, get_of_contains}
 use Rattle.sight_names.proofs.Meets.{flip_first, flip_second}
@@ -134,3 +139,17 @@ OnTrue_not false P f = f refl
 
 pub bar_turned : (m : Map) (kept : List Edge) (u v : ℕ) → IsCrossedBy m kept (edge v u) → IsCrossedBy m kept (edge u v)
 bar_turned m kept u v bar = (bar.0, bar.1, λ h. bar.2 (flip_first (place m u) (place m v) (place m bar.0.from) (place m bar.0.to) h))
+
+-- two segments from p that aren't on one line have p alone in common
+pub fan_ends : (p q s : Pt) → ¬ (turn_of p q s ≡ pos 0) → MeetAtEnds p q p s
+fan_ends p q s off = record {
+  one = λ u v c d. (only_of_meeting p q p s v (at v d)).only u c;
+  ends = λ u c. (end_of_first p q p s u (at u c) (inl (turn_at_first p s)), end_of_second p q p s u (at u c) (inl (turn_at_first p q)));
+}
+  where
+    at : (u : Point) → IsCommon p q p s u → IsMeeting p q p s u
+    at u c = record { crossing = λ e. off (let z = turn_at_first p q in omega (arith, ints)); common = c }
+
+-- as seen from the pair's other end
+pub meet_turned : (m : Map) (segs : List Segment) (w u v : ℕ) → SegmentsMeet m segs w (edge v u) → SegmentsMeet m segs w (edge u v)
+meet_turned m segs w u v h x s = flip_first (place m v) (place m u) (place m w) (place m x) (h x s)

@@ -80,6 +80,12 @@ far_up p q high h = far_square_up high (nat_abs (q.x -ℤ p.x) * nat_abs (q.x -�
     far_square_up : (high a b : ℕ) → high ≤ b → high * high ≤ a + b * b
     far_square_up high a b h = let k : high * high ≤ b * b = mul-le-mul h h in omega arith
 
+pub far_down : (p q : Pt) (high : ℕ) → high ≤ nat_abs (p.y -ℤ q.y) → high * high ≤ square_length p q
+far_down p q high h = far_up p q high (swapped p.y q.y high h)
+  where
+    swapped : (a b : ℤ) (n : ℕ) → n ≤ nat_abs (a -ℤ b) → n ≤ nat_abs (b -ℤ a)
+    swapped a b n h = omega (arith, ints)
+
 far_apart : (p q : Pt) (high : ℕ) → pos high ≤ℤ (q.x -ℤ p.x) → high * high ≤ square_length p q
 far_apart p q high h = far_square high (nat_abs (q.x -ℤ p.x)) (nat_abs (q.y -ℤ p.y) * nat_abs (q.y -ℤ p.y)) (wide (q.x -ℤ p.x) h)
   where

@@ -22,7 +22,7 @@ use Rattle.triangulate.specs.IncidentSegments.Incident.{has_end, other_end}
 use Rattle.triangulate.specs.IncidentSegments.Kept.{edges_of, IsCrossedBy}
 use Rattle.triangulate.specs.IncidentSegments.Neighbours.{IsNeighbour}
 use Rattle.triangulate.specs.GreedySegments.Rounds.{IsSaturated}
-use Rattle.triangulate.specs.GreedySegments.Saturated.{turn_between, HasTriangleLeft, HasBothFaces}
+use Rattle.triangulate.specs.GreedySegments.Saturated.{turn_between, HasTriangleLeft, HasFaceLeft, HasFaceRight}
 use Rattle.triangulate.proofs.IncidentSegments.KeptEdges.{any_segment}
 use Rattle.triangulate.proofs.GreedySegments.Crossed.{edge, bar_of_neighbour}
 use Rattle.math_base.proofs.Small.{pos_where_negated, zero_by_first, nonneg_of_pos, lt_of_zero, neg_of_negated_pos}
@@ -176,12 +176,12 @@ module _ (segs : List Segment) (a : ℕ) (S : ℕ → ℤ) (U : ℕ → ℕ → 
 clash : {A : Type 0} (t : ℤ) → pos 0 <ℤ t → t ≤ℤ pos 0 → A
 clash t h k = absurd (omega (arith, ints))
 
-bar_right : (m : Map) (segs : List Segment) (a j w : ℕ) → j < length (points_of m) → ((v : ℕ) → IsNeighbour segs a v → HasBothFaces m segs a v) → IsNeighbour segs a w → pos 0 <ℤ turn_between m a w j → IsCrossedBy m (edges_of segs) (edge a j)
-bar_right m segs a j w jn shut neighbour side =
+bar_right : (m : Map) (segs : List Segment) (a j w : ℕ) → j < length (points_of m) → ((v : ℕ) → IsNeighbour segs a v → HasFaceLeft m segs a v) → IsNeighbour segs a w → pos 0 <ℤ turn_between m a w j → IsCrossedBy m (edges_of segs) (edge a j)
+bar_right m segs a j w jn left neighbour side =
     let at = place m in
     let near = nearest segs a (λ x. turn_between m a x j) (λ x y. turn_between m a x y) (λ x y. turn_back (at a) (at x) (at y)) (λ x y z. turn_fan (at a) (at x) (at y) (at z) (at j)) w neighbour side in
     let u = near.0 in
-    elim (shut u near.1).left [
+    elim (left u near.1) [
       | inr none ↦ clash (turn_between m a u j) near.2 (none j jn)
       | inl t ↦
           let c = t.0 in
@@ -197,24 +197,20 @@ bar_right m segs a j w jn shut neighbour side =
           ]
     ]
 
-bar_left : (m : Map) (segs : List Segment) (a j w : ℕ) → j < length (points_of m) → ((v : ℕ) → IsNeighbour segs a v → HasBothFaces m segs a v) → IsNeighbour segs a w → pos 0 <ℤ turn_between m a j w → IsCrossedBy m (edges_of segs) (edge a j)
-bar_left m segs a j w jn shut neighbour side =
+bar_left : (m : Map) (segs : List Segment) (a j w : ℕ) → j < length (points_of m) → ((v : ℕ) → IsNeighbour segs a v → HasFaceLeft m segs a v) → ((v : ℕ) → IsNeighbour segs a v → HasFaceRight m segs a v) → IsNeighbour segs a w → pos 0 <ℤ turn_between m a j w → IsCrossedBy m (edges_of segs) (edge a j)
+bar_left m segs a j w jn left right neighbour side =
     let at = place m in
     let near = nearest segs a (λ x. turn_between m a j x) (λ x y. turn_between m a y x) (λ x y. turn_back (at a) (at y) (at x)) (λ x y z. mirrored_fan (at a) (at x) (at y) (at z) (at j)) w neighbour side in
     let u = near.0 in
-    elim (shut u near.1).right [
+    elim (right u near.1) [
       | inr none ↦ clash (turn_between m u a j) (subst (λ (k : ℤ). pos 0 <ℤ k) (turn_round (at u) (at a) (at j)) near.2) (none j jn)
       | inl t ↦
-          let c = t.0 in
-          elim (sign_cases (turn_between m a j c)) [
-            | inl before ↦
-                let forth : pos 0 <ℤ turn_between m a c j = pos_where_negated (turn_between m a j c) (turn_between m a c j) (turn_back (at a) (at j) (at c)) before in
-                elim (le_or_lt (turn_between m c u j) (pos 0)) [
-                  | inl beyond ↦ bar_of_neighbour m segs c u (edge a j) t.2 (cross_bars (at a) (at j) (at c) (at u) t.3.turn forth near.2 beyond)
-                  | inr inside ↦ absurd (t.3.empty j jn (forth, inside, subst (λ (k : ℤ). pos 0 <ℤ k) (turn_round (at u) (at a) (at j)) near.2))
-                ]
-            | inr (inl straight) ↦ bar_of_neighbour m segs a c (edge a j) t.1 (right_ray_bars (at a) (at j) (at c) (at u) straight t.3.turn near.2)
-            | inr (inr after) ↦ clash (turn_between m a c u) t.3.turn (near.3 c t.1 after)
+          let x = t.0 in
+          let after : pos 0 <ℤ turn_between m a x u = pos_where_negated (turn_between m a u x) (turn_between m a x u) (turn_back (at a) (at u) (at x)) t.2 in
+          elim (sign_cases (turn_between m a x j)) [
+            | inl before ↦ clash (turn_between m a x u) after (near.3 x t.1 (pos_where_negated (turn_between m a x j) (turn_between m a j x) (turn_back (at a) (at x) (at j)) before))
+            | inr (inl straight) ↦ bar_of_neighbour m segs a x (edge a j) t.1 (right_ray_bars (at a) (at j) (at x) (at u) (turn_back (at a) (at x) (at j) ∙ ap neg_ℤ straight) after near.2)
+            | inr (inr behind) ↦ bar_right m segs a j x jn left t.1 behind
           ]
     ]
 
@@ -227,16 +223,16 @@ both_straight a j u c differ turn hu hc =
     let p = mul-pos (turn_of a u c) (square_of a j) turn (square_of-pos a j differ) in
     omega (arith, ints)
 
-pub shut_off : (p : PlanParts) → IsPlan p → (segs : List Segment) (a : ℕ) → a < length p.points → ((v : ℕ) → IsNeighbour segs a v → HasBothFaces (map_of p) segs a v) → ((v : ℕ) × IsNeighbour segs a v × HasTriangleLeft (map_of p) segs a v) → IsSaturated (map_of p) (edges_of segs) a
-shut_off p is segs a an shut (v, neighbour, t) j jn differ =
+pub shut_off : (p : PlanParts) → IsPlan p → (segs : List Segment) (a : ℕ) → a < length p.points → ((v : ℕ) → IsNeighbour segs a v → HasFaceLeft (map_of p) segs a v) → ((v : ℕ) → IsNeighbour segs a v → HasFaceRight (map_of p) segs a v) → ((v : ℕ) × IsNeighbour segs a v × HasTriangleLeft (map_of p) segs a v) → IsSaturated (map_of p) (edges_of segs) a
+shut_off p is segs a an left right (v, neighbour, t) j jn differ =
     let m = map_of p in let at = place m in
     let apart : ¬ (at a ≡ at j) = places_differ p is a j an (subst (λ (n : ℕ). j < n) (count_of_plan p is) jn) differ in
     elim (sign_cases (turn_between m a v j)) [
-      | inl h ↦ bar_left m segs a j v jn shut neighbour (pos_where_negated (turn_between m a v j) (turn_between m a j v) (turn_back (at a) (at v) (at j)) h)
-      | inr (inr h) ↦ bar_right m segs a j v jn shut neighbour h
+      | inl h ↦ bar_left m segs a j v jn left right neighbour (pos_where_negated (turn_between m a v j) (turn_between m a j v) (turn_back (at a) (at v) (at j)) h)
+      | inr (inr h) ↦ bar_right m segs a j v jn left neighbour h
       | inr (inl z) ↦ elim (sign_cases (turn_between m a j t.0)) [
-        | inl h ↦ bar_right m segs a j t.0 jn shut t.1 (pos_where_negated (turn_between m a j t.0) (turn_between m a t.0 j) (turn_back (at a) (at j) (at t.0)) h)
-        | inr (inr h) ↦ bar_left m segs a j t.0 jn shut t.1 h
+        | inl h ↦ bar_right m segs a j t.0 jn left t.1 (pos_where_negated (turn_between m a j t.0) (turn_between m a t.0 j) (turn_back (at a) (at j) (at t.0)) h)
+        | inr (inr h) ↦ bar_left m segs a j t.0 jn left right t.1 h
         | inr (inl y) ↦ absurd (both_straight (at a) (at j) (at v) (at t.0) apart t.3.turn z y)
       ]
     ]

@@ -54,13 +54,44 @@ fn is_met(p: Pt, q: Pt, r: Pt, s: Pt) -> bool
     meet_at_ends(p, q, r, s)
 }
 
-/// Whether each kept segment meets the segment from `i` to `j` at ends of both alone. Segments whose point numbers are
+/// Whether the segments from `p` to `q` and from `p` to `s` have `p` alone in common. Off one line they do.
+fn is_fan(p: Pt, q: Pt, s: Pt) -> bool
+    requires first { p ≢ q }
+    requires second { p ≢ s }
+    ensures { IsTrue result ↔ MeetAtEnds p q p s }
+{
+    if turn(p, q, s) == 0 {
+        return meet_at_ends(p, q, p, s);
+    }
+    true
+}
+
+/// Whether each segment at `u` meets the segment from `i` to `j` at ends of both alone, as those at `i` do.
+fn segments_meet_beyond(plan: &Plan, incident: &IncidentSegments, u: u16, i: u16, j: u16) -> bool
+    requires points { incident.now.points ≡ length plan.now.points }
+    requires at { u < incident.now.points }
+    requires first { i < incident.now.points }
+    requires second { j < incident.now.points }
+    requires differ { i ≢ j }
+    requires near { SegmentsMeet (map_of plan.now) incident.now.segments i (record { from = i; to = j }) }
+    ensures meet { OnTrue result (SegmentsMeet (map_of plan.now) incident.now.segments u (record { from = i; to = j })) }
+    ensures barred { OnFalse result (IsCrossedAt (map_of plan.now) incident.now.segments u (record { from = i; to = j })) }
+{
+    if u == i {
+        return true;
+    }
+    segments_meet(plan, incident, u, i, j)
+}
+
+/// Whether each kept segment meets the segment from `i` to `j` at ends of both alone, as those at `i` and `j` do. Segments whose point numbers are
 /// all before `i` or all behind `j` are apart from it, and so are those of points whose extents lie above or below both.
 pub fn is_clear(plan: &Plan, incident: &IncidentSegments, extents: &Extents, i: u16, j: u16) -> bool
     requires points { incident.now.points ≡ length plan.now.points }
     requires extents { AreExtents (map_of plan.now) incident.now.segments extents.now.extents.items }
     requires order { i < j }
     requires second { j < incident.now.points }
+    requires near { SegmentsMeet (map_of plan.now) incident.now.segments i (record { from = i; to = j }) }
+    requires far { SegmentsMeet (map_of plan.now) incident.now.segments j (record { from = i; to = j }) }
     ensures free { OnTrue result (MeetsEach (map_of plan.now) (edges_of incident.now.segments) (record { from = i; to = j })) }
     ensures barred { OnFalse result (IsCrossedBy (map_of plan.now) (edges_of incident.now.segments) (record { from = i; to = j })) }
 {
@@ -71,12 +102,12 @@ pub fn is_clear(plan: &Plan, incident: &IncidentSegments, extents: &Extents, i: 
     let pair_extent = pair_extent_of(plan, i, j);
     let mut u = extents.next(0, pair_extent);
     while u < j {
-        if !segments_meet(plan, incident, u, i, j) {
+        if !segments_meet_beyond(plan, incident, u, i, j) {
             return false;
         }
         u = extents.next(u + 1, pair_extent);
     }
-    segments_meet(plan, incident, j, i, j)
+    true
 }
 
 /// Whether a segment joins `u` and `v` and meets the segment from `i` to `j` otherwise than at ends of both.
@@ -100,13 +131,14 @@ fn is_crossed_by(plan: &Plan, incident: &IncidentSegments, u: u16, v: u16, i: u1
 }
 
 /// Whether the segments to the neighbours of `i` on both sides of the direction of `j`, or the segment between their ends, show that the
-/// segment from `i` to `j` meets a kept one otherwise than at ends of both.
+/// segment from `i` to `j` meets a kept one otherwise than at ends of both. Where they don't, it meets those at `i` at ends alone.
 pub fn is_crossed(plan: &Plan, incident: &IncidentSegments, i: u16, j: u16) -> bool
     requires points { incident.now.points ≡ length plan.now.points }
     requires first { i < incident.now.points }
     requires second { j < incident.now.points }
     requires differ { i ≢ j }
-    ensures { OnTrue result (IsCrossedBy (map_of plan.now) (edges_of incident.now.segments) (record { from = i; to = j })) }
+    ensures crossed { OnTrue result (IsCrossedBy (map_of plan.now) (edges_of incident.now.segments) (record { from = i; to = j })) }
+    ensures meet { OnFalse result (SegmentsMeet (map_of plan.now) incident.now.segments i (record { from = i; to = j })) }
 {
     let (from, to) = (plan.place(i), plan.place(j));
     let (mut left, mut right) = (None, None);
@@ -114,7 +146,7 @@ pub fn is_crossed(plan: &Plan, incident: &IncidentSegments, i: u16, j: u16) -> b
     while at > 0 {
         let c = incident.other(at - 1, i);
         let end = plan.place(c);
-        if turn(from, to, end) == 0 && !meet_at_ends(from, to, from, end) {
+        if !is_fan(from, to, end) {
             return true;
         }
         left = first_left(plan, from, to, left, c);

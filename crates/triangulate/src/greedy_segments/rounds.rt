@@ -2,6 +2,7 @@
 //! pairs aren't made.
 
 ghost use Rattle.std.specs.Prelude.{ℕ, ◌≡◌, ◌<◌, ◌≤◌, ◌⊎◌, ◌↔◌, ◌++◌, ◌*◌, ◌^◌, ◌-ℤ◌, nat_abs, IsTrue, IfSome, IfOk, OnOk, Contains, length};
+ghost use Rattle.std.specs.Bool.{OnTrue};
 ghost use Rattle.std.specs.List.Sorted.{IsPermutation};
 ghost use Rattle.sight_names.specs.Map.{map_of};
 ghost use Rattle.sight_names.specs.Plan.{IsPlan, IsPlanLine};
@@ -54,7 +55,7 @@ pub fn greedy(alloc: Global, plan: &Plan) -> Result<Segments, Memory>
         sort_pairs(&mut pairs);
         keep_clear_pairs(plan, &mut incident, &mut extents, pairs.as_slice())?;
         low = high;
-        high = 2 * high;
+        high += high / 2;
     }
     Ok(Segments::of(incident.into_segments()))
 }
@@ -195,6 +196,22 @@ fn difference(a: i32, b: i32) -> u64
     b.abs_diff(a) as u64
 }
 
+/// Whether `q` is at least `high` on the right of `p`.
+fn is_past(p: Pt, q: Pt, high: u32) -> bool
+    requires high { high ≤ 2 ^ 28 }
+    ensures { OnTrue result (high ≤ nat_abs (q.x -ℤ p.x)) }
+{
+    q.x as i64 >= p.x as i64 + high as i64
+}
+
+/// Whether `q` is at least `high` above `p`.
+fn is_above(p: Pt, q: Pt, high: u32) -> bool
+    requires high { high ≤ 2 ^ 28 }
+    ensures { OnTrue result (high ≤ nat_abs (q.y -ℤ p.y)) }
+{
+    q.y as i64 >= p.y as i64 + high as i64
+}
+
 /// The pairs of unsaturated points at least `low` and less than `high` apart.
 fn pairs_between(
     alloc: Global,
@@ -235,7 +252,7 @@ fn add_pairs(
     let start = plan.place(from);
     for to in later {
         let end = plan.place(*to);
-        if difference(start.x, end.x) >= high as u64 {
+        if is_past(start, end, high) {
             return Ok(());
         }
         add_near(pairs, start, end, from, *to, low, high)?;
@@ -258,7 +275,10 @@ fn add_near(
     requires high { high ≤ 2 ^ 28 }
     ensures { OnOk result (AddsIfBetween low high (record { square = square_length start end; from = from; to = to }) pairs.old.items pairs.new.items) }
 {
-    if difference(start.y, end.y) >= high as u64 {
+    if is_above(start, end, high) {
+        return Ok(());
+    }
+    if is_above(end, start, high) {
         return Ok(());
     }
     let square = square_of(start, end);

@@ -1,11 +1,11 @@
 //! Points whose neighbours leave no room for a further segment.
 
-ghost use Rattle.std.specs.Prelude.{ℕ, ◌≡◌, ◌<◌, ◌⊎◌, ◌↔◌, pos, ◌<ℤ◌, IsTrue, length};
+ghost use Rattle.std.specs.Prelude.{ℕ, ◌≡◌, ◌<◌, ◌↔◌, pos, ◌<ℤ◌, IsTrue, length};
 ghost use Rattle.std.specs.Bool.{OnTrue, OnFalse};
 ghost use Rattle.geom_exact.specs.Formulas.{turn_of};
 ghost use Rattle.sight_names.specs.Map.{map_of};
 ghost use Rattle.sight_names.specs.Plan.{IsPlan};
-ghost use Rattle.triangulate.specs.GreedySegments.Saturated.{HasNoneLeft, HasTriangleLeft, HasTriangleRight, HasGapLeft, HasGapAt, IsBetween, IsEmptyTriangle, HasBothFaces};
+ghost use Rattle.triangulate.specs.GreedySegments.Saturated.{HasNoneLeft, HasTriangleLeft, HasNeighbourRight, HasFaceLeft, HasFaceRight, IsBetween, IsEmptyTriangle};
 ghost use Rattle.triangulate.specs.IncidentSegments.Kept.{edges_of};
 ghost use Rattle.triangulate.specs.GreedySegments.Rounds.{IsSaturated};
 ghost use Rattle.triangulate.specs.IncidentSegments.Neighbours.{IsNeighbour};
@@ -13,9 +13,26 @@ ghost use Rattle.triangulate.specs.GreedySegments.Searched.{AreSearched};
 ghost use Rattle.sight_names.specs.Map.{Map};
 
 use crate::greedy_segments::searched::{Corners, Searched};
-use crate::incident_segments::{IncidentSegments, are_joined, next_left, next_right};
+use crate::incident_segments::{IncidentSegments, are_joined, next_left};
 use geom_exact::{in_triangle, turn};
 use sight_names::{Plan, Pt};
+
+/// How far apart the points are at which `shows_left` looks.
+const STRIDE: usize = 64;
+
+/// Whether one of a few points of the map, spread over it, is strictly on the left of the way. Most sides with a point there
+/// show it by these.
+fn shows_left(plan: &Plan, from: Pt, to: Pt) -> bool {
+    let points = plan.points();
+    let mut behind = points.len();
+    while behind > 0 {
+        if turn(from, to, points[behind - 1]) > 0 {
+            return true;
+        }
+        behind = behind.saturating_sub(STRIDE);
+    }
+    false
+}
 
 /// Whether a point of the map is strictly on the left of the way from `a` to `b`.
 fn has_left(plan: &Plan, a: u16, b: u16) -> bool
@@ -24,6 +41,9 @@ fn has_left(plan: &Plan, a: u16, b: u16) -> bool
     ensures { OnFalse result (HasNoneLeft (map_of plan.now) a b) }
 {
     let (from, to) = (plan.place(a), plan.place(b));
+    if shows_left(plan, from, to) {
+        return true;
+    }
     for point in plan.points() {
         if turn(from, to, *point) > 0 {
             return true;
@@ -168,7 +188,7 @@ fn has_face_left(
     requires second { b < incident.now.points }
     requires searched { AreSearched (map_of plan.now) searched.old.triangles.items }
     ensures searched { AreSearched (map_of plan.now) searched.new.triangles.items }
-    ensures face { OnTrue result (HasTriangleLeft (map_of plan.now) incident.now.segments a b ⊎ HasNoneLeft (map_of plan.now) a b) }
+    ensures face { OnTrue result (HasFaceLeft (map_of plan.now) incident.now.segments a b) }
 {
     match next_left(plan, incident, a, b) {
         Some(c) => are_joined(incident, b, c) && finds_empty(plan, searched, a, b, c),
@@ -176,29 +196,39 @@ fn has_face_left(
     }
 }
 
-/// The same on its right.
-fn has_face_right(
-    plan: &Plan,
-    incident: &IncidentSegments,
-    searched: &mut Searched,
-    a: u16,
-    b: u16,
-) -> bool
+/// Whether there is no room on its right: a neighbour lies there, whose own left side has none, or no point.
+fn has_face_right(plan: &Plan, incident: &IncidentSegments, a: u16, b: u16) -> bool
     requires points { incident.now.points ≡ length plan.now.points }
     requires first { a < incident.now.points }
     requires second { b < incident.now.points }
-    requires searched { AreSearched (map_of plan.now) searched.old.triangles.items }
-    ensures searched { AreSearched (map_of plan.now) searched.new.triangles.items }
-    ensures face { OnTrue result (HasTriangleRight (map_of plan.now) incident.now.segments a b ⊎ HasNoneLeft (map_of plan.now) b a) }
+    ensures { OnTrue result (HasFaceRight (map_of plan.now) incident.now.segments a b) }
 {
-    match next_right(plan, incident, a, b) {
-        Some(c) => are_joined(incident, c, b) && finds_empty(plan, searched, a, c, b),
-        None => !has_left(plan, b, a),
+    if has_neighbour_right(plan, incident, a, b) {
+        return true;
     }
+    !has_left(plan, b, a)
 }
 
-/// Whether the segment to each neighbour of the point has no room on either side.
-fn have_both_faces(
+/// Whether a neighbour of `a` is strictly on the right of the way to its neighbour `b`.
+fn has_neighbour_right(plan: &Plan, incident: &IncidentSegments, a: u16, b: u16) -> bool
+    requires points { incident.now.points ≡ length plan.now.points }
+    requires first { a < incident.now.points }
+    requires second { b < incident.now.points }
+    ensures { OnTrue result (HasNeighbourRight (map_of plan.now) incident.now.segments a b) }
+{
+    let (from, to) = (plan.place(a), plan.place(b));
+    let mut at = incident.last(a);
+    while at > 0 {
+        if turn(from, to, plan.place(incident.other(at - 1, a))) < 0 {
+            return true;
+        }
+        at = incident.earlier(at - 1, a);
+    }
+    false
+}
+
+/// Whether the segment to each neighbour of the point has no room on its left.
+fn have_left_faces(
     plan: &Plan,
     incident: &IncidentSegments,
     searched: &mut Searched,
@@ -208,15 +238,27 @@ fn have_both_faces(
     requires at { a < incident.now.points }
     requires searched { AreSearched (map_of plan.now) searched.old.triangles.items }
     ensures searched { AreSearched (map_of plan.now) searched.new.triangles.items }
-    ensures faces { OnTrue result ((v : ℕ) → IsNeighbour incident.now.segments a v → HasBothFaces (map_of plan.now) incident.now.segments a v) }
+    ensures faces { OnTrue result ((v : ℕ) → IsNeighbour incident.now.segments a v → HasFaceLeft (map_of plan.now) incident.now.segments a v) }
 {
     let mut at = incident.last(a);
     while at > 0 {
-        let b = incident.other(at - 1, a);
-        if !has_face_left(plan, incident, searched, a, b) {
+        if !has_face_left(plan, incident, searched, a, incident.other(at - 1, a)) {
             return false;
         }
-        if !has_face_right(plan, incident, searched, a, b) {
+        at = incident.earlier(at - 1, a);
+    }
+    true
+}
+
+/// Whether the segment to each neighbour of the point has no room on its right, where none has on its left.
+fn have_right_faces(plan: &Plan, incident: &IncidentSegments, a: u16) -> bool
+    requires points { incident.now.points ≡ length plan.now.points }
+    requires at { a < incident.now.points }
+    ensures { OnTrue result ((v : ℕ) → IsNeighbour incident.now.segments a v → HasFaceRight (map_of plan.now) incident.now.segments a v) }
+{
+    let mut at = incident.last(a);
+    while at > 0 {
+        if !has_face_right(plan, incident, a, incident.other(at - 1, a)) {
             return false;
         }
         at = incident.earlier(at - 1, a);
@@ -243,36 +285,6 @@ fn has_triangle_at(plan: &Plan, incident: &IncidentSegments, searched: &Searched
     false
 }
 
-/// Whether the first neighbour of `a` on the left of the way to its neighbour `b` isn't joined with `b`.
-fn has_gap_left(plan: &Plan, incident: &IncidentSegments, a: u16, b: u16) -> bool
-    requires points { incident.now.points ≡ length plan.now.points }
-    requires first { a < incident.now.points }
-    requires second { b < incident.now.points }
-    ensures { OnTrue result (HasGapLeft (map_of plan.now) incident.now.segments a b) }
-{
-    match next_left(plan, incident, a, b) {
-        Some(c) => !are_joined(incident, b, c),
-        None => false,
-    }
-}
-
-/// Whether a neighbour of the point isn't joined with the first one on its left. Most points that aren't saturated show it here,
-/// before any triangle is searched.
-fn has_gap(plan: &Plan, incident: &IncidentSegments, a: u16) -> bool
-    requires points { incident.now.points ≡ length plan.now.points }
-    requires at { a < incident.now.points }
-    ensures { OnTrue result (HasGapAt (map_of plan.now) incident.now.segments a) }
-{
-    let mut at = incident.last(a);
-    while at > 0 {
-        if has_gap_left(plan, incident, a, incident.other(at - 1, a)) {
-            return true;
-        }
-        at = incident.earlier(at - 1, a);
-    }
-    false
-}
-
 /// Whether the segments to all neighbours of the point have no room on either side, and some have a triangle on the left.
 pub fn is_saturated(
     plan: &Plan,
@@ -286,10 +298,10 @@ pub fn is_saturated(
     ensures searched { AreSearched (map_of plan.now) searched.new.triangles.items }
     ensures saturated { OnTrue result (IsSaturated (map_of plan.now) (edges_of incident.now.segments) a) }
 {
-    if has_gap(plan, incident, a) {
+    if !have_left_faces(plan, incident, searched, a) {
         return false;
     }
-    if !have_both_faces(plan, incident, searched, a) {
+    if !have_right_faces(plan, incident, a) {
         return false;
     }
     has_triangle_at(plan, incident, searched, a)

@@ -1,4 +1,5 @@
-use Rattle.std.proofs.Common.{◌≡◌, ℕ, get_or, subst, ap₂, arith, nat_abs, ◌≤◌, ◌-ℤ◌, to_z-of_z}
+use Rattle.std.proofs.Common.{ℕ, get_or, subst, ap₂, arith, nat_abs, ◌≤◌, ◌-ℤ◌}
+use Rattle.std.proofs.lemmas.Bool.{OnTrue_at}
 use Rattle.std.proofs.lemmas.Option.{slice_get-get_or}
 use Rattle.sight_names.specs.declared.names.Pt.{Pt}
 use Rattle.sight_names.specs.Map.{map_of}
@@ -14,12 +15,11 @@ loop-to-init c = adds_none (map_of c.args.plan.now) c.args.from c.args.later.now
 pub place-end-requires : goal.place-end-requires
 place-end-requires c = c.requires.later.within (get_or c.args.later.now c.loop-to.to-index 0) (contains_of_get c.args.later.now (get_or c.args.later.now c.loop-to.to-index 0) c.loop-to.to-index (slice_get-get_or c.args.later.now c.loop-to.to-index 0 c.loop-to-test.true))
 
-pub returns-then-difference-high : goal.returns-then-difference-high
-returns-then-difference-high c =
+pub returns-then-is_past : goal.returns-then-is_past
+returns-then-is_past c =
     let to = get_or c.args.later.now c.loop-to.to-index 0 in
     let at = slice_get-get_or c.args.later.now c.loop-to.to-index 0 c.loop-to-test.true in
-    let same : c.difference.result ≡ nat_abs (c.place-end.result.x -ℤ c.place-start.result.x) = grind (arith, to_z-of_z, c.difference.ensures.value) in
-    let far : c.args.high ≤ nat_abs (c.place-end.result.x -ℤ c.place-start.result.x) = subst (λ (n : ℕ). c.args.high ≤ n) same c.if-difference-high.true in
+    let far : c.args.high ≤ nat_abs (c.place-end.result.x -ℤ c.place-start.result.x) = OnTrue_at c.if-is_past.true c.is_past.ensures in
     adds_rest c.args.plan.now c.place-start.ensures.plan c.args.from to c.loop-to.to-index c.args.low c.args.high c.args.later.now c.args.pairs.now.items c.loop-to.pairs.items (c.requires.behind to (contains_of_get c.args.later.now to c.loop-to.to-index at)) c.requires.later at
     (subst (λ (q : Pt). c.args.high ≤ nat_abs (q.x -ℤ (place (map_of c.args.plan.now) c.args.from).x)) c.place-end.ensures.place (subst (λ (q : Pt). c.args.high ≤ nat_abs (c.place-end.result.x -ℤ q.x)) c.place-start.ensures.place far))
     c.loop-to.invariant

@@ -1,4 +1,4 @@
-use Rattle.std.proofs.Common.{◌≡◌, ◌<◌, ◌≤◌, ◌*◌, ◌⊎◌, inl, inr, ℕ, List, length, Contains, subst, sym, ap, ◌∙◌, arith}
+use Rattle.std.proofs.Common.{◌+◌, ◌/◌, ◌≡◌, ◌<◌, ◌≤◌, ◌*◌, ◌⊎◌, inl, inr, ℕ, List, length, Contains, subst, sym, ap, ◌∙◌, arith}
 use Rattle.std.proofs.Math.Nat.{mul-le-mul}
 use Rattle.std.proofs.lemmas.List.Sorted.{Contains-permutation, IsPermutation-sym}
 use Rattle.sight_names.specs.Map.{map_of}
@@ -34,7 +34,7 @@ keep_clear_pairs-requires-clause-pairs c = λ p k.
 pub keep_clear_pairs-requires-clause-order : goal.keep_clear_pairs-requires-clause-order
 keep_clear_pairs-requires-clause-order c = subst AreInOrder (sym c.as_slice-in-loop-low-2.ensures.value) c.sort_pairs.ensures.order
 
-rises : (low high : ℕ) → ((low ≡ 0) × (high ≡ 64)) ⊎ ((high ≡ 2 * low) × (1 ≤ low) × (low ≤ 201326594)) → low * low ≤ high * high
+rises : (low high : ℕ) → ((low ≡ 0) × (high ≡ 64)) ⊎ ((high ≡ low + low / 2) × (2 ≤ low) × (low ≤ 201326594)) → low * low ≤ high * high
 rises low high b = let h : low ≤ high = elim b [ inl k ↦ (let e = k.0 in omega arith) | inr k ↦ (let e = k.0 in omega arith) ] in mul-le-mul h h
 
 pub loop-low-preserved : goal.loop-low-preserved
