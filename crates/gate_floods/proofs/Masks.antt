@@ -1,5 +1,5 @@
 -- Floods and masks as rows of bits: what lies beyond a gate is connected with its sectors, so that a group there is either claimed or joined.
-use Rattle.std.proofs.Common.{◌≡◌, ℕ, ◌<◌, List, [], ◌∷◌, ◌++◌, Option, Some, slice_get, Bool, true, false, not, refl, sym, subst}
+use Rattle.std.proofs.Common.{◌≡◌, ℕ, ◌<◌, List, [], Some, slice_get, Bool, true, refl, sym, subst}
 use Rattle.sight_names.specs.Map.{Map, IsMap}
 use Rattle.sight_names.specs.Found.{AreConnected}
 use Rattle.sight_names.specs.Sequence.{Portal}

@@ -1,5 +1,5 @@
 -- The masks by rows of what is joined are those of a certificate's claims.
-use Rattle.std.proofs.Common.{◌≡◌, ℕ, ◌<◌, ◌↔◌, List, [], ◌∷◌, ◌++◌, Option, Some, Bool, true, false, not, refl, sym, subst}
+use Rattle.std.proofs.Common.{ℕ, ◌<◌, ◌↔◌, List, [], refl, sym, subst}
 use Rattle.sight_names.specs.Map.{Map, IsMap}
 use Rattle.sight_names.specs.Found.{AreConnected}
 use Rattle.sight_names.specs.Sequence.{Portal}

@@ -1,12 +1,12 @@
 -- The gates of a map: gathered line by line, and found by the sectors that they lead out of.
-use Rattle.std.proofs.Common.{◌≡◌, ℕ, zero, suc, ◌+◌, ◌-◌, ◌<◌, ◌≤◌, ◌⊎◌, ◌↔◌, inl, inr, List, [], ◌∷◌, length, slice_get, get_or, take, drop, Option, Some, Bool, true, false, not, refl, sym, ap, ◌∙◌, subst, arith, Contains, IfSome, get_or-take, get_or-drop, length-take, length-drop, ltb}
+use Rattle.std.proofs.Common.{◌≡◌, ℕ, zero, suc, ◌+◌, ◌-◌, ◌<◌, ◌≤◌, ◌⊎◌, ◌↔◌, inl, inr, List, [], ◌∷◌, length, slice_get, get_or, take, drop, Option, Some, Bool, true, false, refl, sym, ap, ◌∙◌, subst, arith, Contains, get_or-take, get_or-drop, length-take, length-drop, ltb}
 use Rattle.std.proofs.lemmas.Bool.{ltb-true, ltb-false}
 use Rattle.std.proofs.lemmas.Option.{slice_get_within, get_or_from_slice_get}
 use Rattle.std.specs.List.Sorted.{IsPartitionPoint, IsPermutation}
 use Rattle.std.proofs.lemmas.List.Sorted.{Contains-permutation, IsPermutation-sym}
 use Rattle.sight_names.specs.declared.names.Side.{Side}
 use Rattle.sight_names.specs.Plan.{PlanParts, IsPlan}
-use Rattle.sight_names.specs.Map.{Map, MapLine, IsMap, IsMapLine, map_of, sector_on}
+use Rattle.sight_names.specs.Map.{Map, map_of}
 use Rattle.sight_names.proofs.Lists.{get_of_contains}
 use Rattle.sight_names.proofs.PlanMap.{line_of_plan, plan_is_map}
 use Rattle.math_base.proofs.Numbers.{below_or_not, below_or_last}

@@ -21,7 +21,7 @@ module _ (xs : List HalfEdge) (ms : MaskRows) (first : List ℕ) (roots : List R
   longer ps at = let k = kept at.depth_room in at_same ms first roots w.path.items path w.rows.items w.waits.items w.follow ps (let l : w.follow.depth < length path = k.0 in omega (arith, l)) k.1 at
 
   module _ (after : List Frame) (rows : List ℕ) (waits : List Wait) (f : RowFollow) where
-    right : HasAnswered xs ms w.source first roots n path w.rows.items w.waits.items w.follow after rows waits f → (ps qs : List Pending) → StandsAt ms first roots w ps → Answers xs ms w.source ps n qs → IsAt ms first roots after rows waits f qs
+    pub right : HasAnswered xs ms w.source first roots n path w.rows.items w.waits.items w.follow after rows waits f → (ps qs : List Pending) → StandsAt ms first roots w ps → Answers xs ms w.source ps n qs → IsAt ms first roots after rows waits f qs
     right answered ps qs at answer = go (answered.next ps (longer ps at))
       where
         go : (us : List Pending) × Answers xs ms w.source ps n us × IsAt ms first roots after rows waits f us → IsAt ms first roots after rows waits f qs

@@ -1,5 +1,5 @@
 -- The bits of words: what both of two rows have, and whether a row has a bit.
-use Rattle.std.proofs.Common.{◌≡◌, ◌≢◌, ℕ, zero, suc, ◌+◌, ◌*◌, ◌/◌, ◌%◌, ◌^◌, ◌<◌, ◌≤◌, ◌-◌, min, inl, inr, List, [], ◌∷◌, drop, Bool, true, false, not, ◌==◌, ◌||◌, length, slice_index, bit_and, get_or, refl, sym, ◌∙◌, ap, arith}
+use Rattle.std.proofs.Common.{◌≡◌, ◌≢◌, ℕ, zero, suc, ◌+◌, ◌*◌, ◌/◌, ◌%◌, ◌^◌, ◌<◌, ◌≤◌, ◌-◌, min, inl, inr, List, [], ◌∷◌, drop, Bool, true, false, not, ◌==◌, ◌||◌, length, slice_index, bit_and, refl, sym, ◌∙◌, ap, arith}
 use Rattle.std.specs.Int.{bit_at}
 use Rattle.std.proofs.lemmas.Nat.Bits.{bit_at-lt, bit_at_lowest, bit_at-suc, bit_at_and, bit_at_ones}
 use Rattle.std.proofs.lemmas.Nat.{and_le_l, and_le_r, and_mask, mod-pow-add}
@@ -144,6 +144,10 @@ they_dont (x ∷ xs) (y ∷ ys) (suc n) none e = both_none (not (bit_and x y % 2
   where
     both_none : (b c : Bool) → b ≡ false → c ≡ false → (b || c) ≡ false
     both_none b c e f = cc
+
+-- a word of 64 bits
+pub no_bit_left : (w x : ℕ) → w ≤ x → x < 2 ^ 64 → w % 2 ^ 64 ≡ 0 → w ≡ 0
+no_bit_left w x l m e = omega (arith, l, m, e)
 
 -- ---- the words of a row
 

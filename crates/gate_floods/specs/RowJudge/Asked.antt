@@ -56,6 +56,10 @@ module _ (ms : MaskRows) where
   abbrev pub row_through : Pending → List ℕ
   row_through p = left_of p.row (mask_at ms p.edge)
 
+  -- the row behind a half-edge with this number, the one before it being at this place
+  abbrev pub row_behind : List ℕ → ℕ → ℕ → List ℕ
+  row_behind rows at i = left_of (row_at rows ms.width at) (mask_at ms i)
+
 module _ (xs : List HalfEdge) (ms : MaskRows) (source : ℕ) where
   -- the way, if it leads out of the source and something is left behind it
   abbrev pub way_asked : List ℕ → Option ℕ → Option ℕ

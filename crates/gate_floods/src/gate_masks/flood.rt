@@ -82,10 +82,9 @@ fn begun(alloc: Global, sectors: u16, gate: Gate) -> Result<Flood, Memory>
     ensures flood { IfOk result (λ f. (es : List Gate) (seen : List ℕ) → IsFlood es (HasBit seen) gate f.marks.items f.queue.items 0) }
 {
     let marks = vec![in alloc; false; sectors as usize]?;
-    let mut flood = Flood {
-        marks,
-        queue: Vec::new(alloc),
-    };
+    // room for all: so the list isn't moved while it grows
+    let queue = Vec::with_capacity(alloc, sectors as usize)?;
+    let mut flood = Flood { marks, queue };
     flood.put(gate.far)?;
     Ok(flood)
 }

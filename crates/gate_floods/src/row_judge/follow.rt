@@ -1,15 +1,15 @@
 //! A walk with a row that follows a tree.
 
-ghost use Rattle.std.specs.Prelude.{◌≡◌, ◌↔◌, ◌+◌, ◌<◌, ◌≤◌, ◌++◌, [], ◌∷◌, ℕ, List, IfOk, OnOk, IsTrue, length, not, true, false};
+ghost use Rattle.std.specs.Prelude.{◌≡◌, ◌↔◌, ◌+◌, ◌<◌, ◌≤◌, ◌++◌, [], ◌∷◌, ℕ, List, Some as Given, IfOk, OnOk, IsTrue, length, not, slice_get, true, false};
 ghost use Rattle.block_evidence.specs.declared.sight_tree.Node.TheVariants.{Open, Blocked};
 ghost use Rattle.cert_checker.specs.TreeJudge.Path.{IsChain};
 ghost use Rattle.cert_checker.specs.TreeJudge.Roots.{first_at};
 ghost use Rattle.gate_floods.specs.RowJudge.Masks.{rows_of};
-ghost use Rattle.gate_floods.specs.RowJudge.Asked.{way_asked as way_asked_of};
+ghost use Rattle.gate_floods.specs.RowJudge.Asked.{row_behind, way_asked as way_asked_of};
 ghost use Rattle.gate_floods.specs.RowJudge.Path.{AsksRoot, EntersThrough, HasAnswered, HasPassedTo, HasRefused, HasRoomFor, StandsBefore, TakesNext};
 ghost use Rattle.gate_floods.specs.RowJudge.Words.{is_away};
 
-use crate::row_judge::masks::{Masks, leaves, place_of};
+use crate::row_judge::masks::{Masks, leaves, leaves_near, place_of};
 use crate::row_judge::words::{has, part, put_both};
 use block_evidence::Evidence;
 use block_evidence::sight_tree::Node;
@@ -38,7 +38,8 @@ pub struct RowFollow {
     pub asked: Option<u32>,
 }
 
-/// The way, if it leads out of the source and something is left of the row behind it.
+/// The way, if it leads out of the source and something is left of the row behind it. `near` is the word in which a row and a
+/// mask met last.
 #[inline(always)]
 fn way_asked(
     terrain: &Terrain<'_>,
@@ -46,11 +47,12 @@ fn way_asked(
     source: u16,
     row: &[u64],
     way: Option<u32>,
+    near: &mut usize,
 ) -> Option<u32>
     ensures { result ≡ way_asked_of terrain.now.edges.now (rows_of masks.now) source row.now way }
 {
     let number = terrain.edges.outside(way, source)?;
-    if leaves(masks, row, number) {
+    if leaves_near(masks, row, number, near) {
         Some(number)
     } else {
         None
@@ -111,16 +113,13 @@ pub fn next_asked(
 }
 
 /// Puts a way behind those that wait.
-// most often there is room, and then nothing is called
+// put where there is room, a wait needn't stand in memory before
 #[inline(always)]
 fn put_wait(waits: &mut Vec<Wait>, wait: Wait) -> Result<(), Memory>
     ensures { OnOk result (waits.new.items ≡ waits.old.items ++ wait ∷ []) }
 {
-    if waits.len() < waits.capacity() {
-        waits.push_reserved(wait);
-        return Ok(());
-    }
-    waits.push(wait)?;
+    waits.reserve(1)?;
+    waits.push_reserved(wait);
     Ok(())
 }
 
@@ -135,12 +134,13 @@ fn enter(
     waits: &mut Vec<Wait>,
     follow: &mut RowFollow,
     edge: &HalfEdge,
+    near: &mut usize,
 ) -> Result<Option<u32>, Memory>
     ensures { (first : List ℕ) (path : List Frame) → IfOk result (λ asked. EntersThrough terrain.now.edges.now (rows_of masks.now) source first terrain.now.roots.now.roots.items path rows.now waits.old.items follow.old edge.now waits.new.items follow.new asked) }
 {
     let row = part(rows, follow.row, masks.width);
-    let right = way_asked(terrain, masks, source, row, edge.right_way);
-    let left = way_asked(terrain, masks, source, row, edge.left_way);
+    let right = way_asked(terrain, masks, source, row, edge.right_way, near);
+    let left = way_asked(terrain, masks, source, row, edge.left_way, near);
     match (left, right) {
         (Some(left), Some(right)) => {
             let wait = Wait {
@@ -236,6 +236,7 @@ pub fn answer_open(
     rows: &mut Vec<u64>,
     waits: &mut Vec<Wait>,
     follow: &mut RowFollow,
+    near: &mut usize,
 ) -> Result<bool, Memory>
     ensures answered { (first : List ℕ) → IfOk result (λ yes. yes ≡ true → HasAnswered terrain.now.edges.now (rows_of masks.now) source first terrain.now.roots.now.roots.items Open path.old rows.old.items waits.old.items follow.old path.new rows.new.items waits.new.items follow.new) }
     ensures refused { (first : List ℕ) → IfOk result (λ yes. yes ≡ false → follow.old.depth < length path.old → HasRefused terrain.now.edges.now (rows_of masks.now) source first terrain.now.roots.now.roots.items Open path.old rows.old.items waits.old.items follow.old) }
@@ -257,7 +258,40 @@ pub fn answer_open(
     }
     follow.depth += 1;
     follow.row = row;
-    follow.asked = enter(terrain, masks, source, rows, waits, follow, edge)?;
+    follow.asked = enter(terrain, masks, source, rows, waits, follow, edge, near)?;
+    Ok(true)
+}
+
+/// Goes through the half-edge that is asked, this one, where an open node answers for it: nothing of that is tested here. The
+/// next half-edge is asked then. False where there is no room on the path, or no row.
+#[inline(always)]
+pub fn go_through(
+    terrain: &Terrain<'_>,
+    masks: &Masks<'_>,
+    source: u16,
+    path: &mut [Frame],
+    rows: &mut Vec<u64>,
+    waits: &mut Vec<Wait>,
+    follow: &mut RowFollow,
+    near: &mut usize,
+    number: u32,
+    edge: &HalfEdge,
+) -> Result<bool, Memory>
+    requires asked { follow.old.asked ≡ Given number }
+    requires there { slice_get terrain.now.edges.now number ≡ Given edge.now }
+    requires away { is_away (row_behind (rows_of masks.now) rows.old.items follow.old.row number) edge.now.sector ≡ true }
+    ensures answered { (first : List ℕ) → IfOk result (λ yes. yes ≡ true → HasAnswered terrain.now.edges.now (rows_of masks.now) source first terrain.now.roots.now.roots.items Open path.old rows.old.items waits.old.items follow.old path.new rows.new.items waits.new.items follow.new) }
+    ensures room { IfOk result (λ yes. follow.old.depth < length path.old → follow.old.row + masks.now.width ≤ length rows.old.items → yes ≡ true) }
+{
+    if !put(path, follow.depth, edge) {
+        return Ok(false);
+    }
+    let Some(row) = pass(masks, rows, follow.row, number)? else {
+        return Ok(false);
+    };
+    follow.depth += 1;
+    follow.row = row;
+    follow.asked = enter(terrain, masks, source, rows, waits, follow, edge, near)?;
     Ok(true)
 }
 
@@ -304,13 +338,14 @@ pub fn answer(
     rows: &mut Vec<u64>,
     waits: &mut Vec<Wait>,
     follow: &mut RowFollow,
+    near: &mut usize,
     node: Node,
 ) -> Result<bool, Memory>
     ensures answered { (first : List ℕ) → IfOk result (λ yes. yes ≡ true → HasAnswered terrain.now.edges.now (rows_of masks.now) source first terrain.now.roots.now.roots.items node path.old rows.old.items waits.old.items follow.old path.new rows.new.items waits.new.items follow.new) }
     ensures refused { (first : List ℕ) → IfOk result (λ yes. yes ≡ false → follow.old.depth < length path.old → HasRefused terrain.now.edges.now (rows_of masks.now) source first terrain.now.roots.now.roots.items node path.old rows.old.items waits.old.items follow.old) }
 {
     match node {
-        Node::Open => answer_open(terrain, masks, source, path, rows, waits, follow),
+        Node::Open => answer_open(terrain, masks, source, path, rows, waits, follow, near),
         Node::Blocked(evidence) => Ok(answer_blocked(
             terrain,
             masks,

@@ -4,7 +4,7 @@ ghost use Rattle.std.specs.Prelude.{◌≡◌};
 ghost use Rattle.gate_floods.specs.RowJudge.Masks.{rows_of};
 ghost use Rattle.gate_floods.specs.RowJudge.Asked.{leaves as leaves_of, mask_at, place_at};
 
-use crate::row_judge::words::{meet, part};
+use crate::row_judge::words::{meet, meet_near, part};
 
 /// Rows of so many words each, one of them for each gate; and for each half-edge that is a gate where its row begins.
 #[derive(Clone, Copy)]
@@ -32,6 +32,17 @@ pub fn leaves(masks: &Masks<'_>, row: &[u64], edge: u32) -> bool
 {
     match place_of(masks, edge) {
         Some(place) => meet(row, part(masks.words, place as usize, masks.width)),
+        None => true,
+    }
+}
+
+/// The same, first by the word in which a row and a mask met last.
+#[inline(always)]
+pub fn leaves_near(masks: &Masks<'_>, row: &[u64], edge: u32, near: &mut usize) -> bool
+    ensures { result ≡ leaves_of row.now (mask_at (rows_of masks.now) edge) }
+{
+    match place_of(masks, edge) {
+        Some(place) => meet_near(row, part(masks.words, place as usize, masks.width), near),
         None => true,
     }
 }

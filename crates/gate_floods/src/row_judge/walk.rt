@@ -1,18 +1,23 @@
 //! A walk with a row that is asked node by node.
 
-ghost use Rattle.std.specs.Prelude.{◌≡◌, ℕ, List, length, true, false, IfOk};
+ghost use Rattle.std.specs.Prelude.{◌≡◌, ◌+◌, ◌≤◌, ℕ, List, Some as Given, length, slice_get, true, false, IfOk};
+ghost use Rattle.block_evidence.specs.declared.sight_tree.Node.TheVariants.{Open};
 ghost use Rattle.block_evidence.specs.declared.sight_tree.Tree.{Tree as WalkTree};
 ghost use Rattle.cert_checker.specs.TreeJudge.Walked.{begun, with_node};
 ghost use Rattle.gate_floods.specs.RowJudge.Masks.{rows_of};
-ghost use Rattle.gate_floods.specs.RowJudge.Asked.{Answers, Pending};
+ghost use Rattle.gate_floods.specs.RowJudge.Asked.{Answers, Pending, row_behind};
+ghost use Rattle.gate_floods.specs.RowJudge.Words.{is_away};
 ghost use Rattle.certificates.specs.CertParts.Nodes.{TakesNodes};
 ghost use Rattle.gate_floods.specs.RowJudge.Judged.{AsksNothing, Follows, FollowsAt, IsFirstWrongFrom, IsWalked, IsWholeFrom, StandsAt};
 
-use crate::row_judge::follow::{RowFollow, Wait, answer, answer_blocked, answer_open, start};
+use crate::row_judge::follow::{
+    RowFollow, Wait, answer, answer_blocked, answer_open, go_through, start,
+};
 use crate::row_judge::masks::Masks;
 use block_evidence::sight_tree::{Node, Tree};
 use cert_checker::tree_judge::{Frame, Terrain, make_room};
 use certificates::cert_parts::usual_node;
+use mesh_shape::half_edges::HalfEdge;
 use sight_names::Memory;
 use std::alloc::Global;
 
@@ -25,6 +30,8 @@ pub struct RowWalk {
     pub rows: Vec<u64>,
     pub waits: Vec<Wait>,
     pub follow: RowFollow,
+    /// The word in which a row and a mask met last.
+    pub near: usize,
 }
 
 /// Puts the row in place of all rows.
@@ -47,7 +54,8 @@ pub struct Followed<'a> {
 /// Follows the usual nodes that come first in the bytes, of so many that are to come, up to the first wrong one and as far as
 /// the path has room.
 // the walk stands in locals here, and all that it calls is in line. The first wrong node is told at once: a flag would be asked
-// for at each
+// for at each. Out of line itself: its registers are its own
+#[inline(never)]
 fn follow_nodes<'a>(
     terrain: &Terrain<'_>,
     masks: &Masks<'_>,
@@ -64,6 +72,7 @@ fn follow_nodes<'a>(
     let mut at = *follow;
     let mut rest = bytes;
     let mut left = count;
+    let mut near = 0;
     'rest: while left > 0 && at.depth < path.len() {
         let Some((node, behind)) = usual_node(rest) else {
             break;
@@ -71,7 +80,9 @@ fn follow_nodes<'a>(
         rest = behind;
         left -= 1;
         let answers = match node {
-            Node::Open => answer_open(terrain, masks, source, path, rows, waits, &mut at)?,
+            Node::Open => answer_open(
+                terrain, masks, source, path, rows, waits, &mut at, &mut near,
+            )?,
             Node::Blocked(evidence) => answer_blocked(
                 terrain,
                 masks,
@@ -115,6 +126,7 @@ impl RowWalk {
                 root: None,
                 asked: None,
             },
+            near: 0,
         }
     }
 
@@ -163,8 +175,46 @@ impl RowWalk {
             &mut self.rows,
             &mut self.waits,
             &mut self.follow,
+            &mut self.near,
             node,
         )
+    }
+
+    /// Goes through the half-edge that is asked, this one, where an open node answers for it: nothing of that is tested anew.
+    #[inline(always)]
+    pub fn go(
+        &mut self,
+        terrain: &Terrain<'_>,
+        masks: &Masks<'_>,
+        number: u32,
+        edge: &HalfEdge,
+    ) -> Result<(), Memory>
+        requires asked { self.old.follow.asked ≡ Given number }
+        requires there { slice_get terrain.now.edges.now number ≡ Given edge.now }
+        requires away { is_away (row_behind (rows_of masks.now) self.old.rows.items self.old.follow.row number) edge.now.sector ≡ true }
+        requires room { self.old.follow.depth ≤ length self.old.path.items }
+        requires row { self.old.follow.row + masks.now.width ≤ length self.old.rows.items }
+        ensures answered { (row : List ℕ) (t : WalkTree) → IsWalked terrain.now.edges.now (rows_of masks.now) row terrain.now.roots.now.roots.items terrain.now.roots.now.first.items t self.old → IfOk result (λ _. IsWalked terrain.now.edges.now (rows_of masks.now) row terrain.now.roots.now.roots.items terrain.now.roots.now.first.items (with_node Open t) self.new) }
+        ensures stands { (first : List ℕ) (ps qs : List Pending) → StandsAt (rows_of masks.now) first terrain.now.roots.now.roots.items self.old ps → Answers terrain.now.edges.now (rows_of masks.now) self.old.source ps Open qs → IfOk result (λ _. StandsAt (rows_of masks.now) first terrain.now.roots.now.roots.items self.new qs) }
+        ensures source { self.new.source ≡ self.old.source }
+    {
+        make_room(&mut self.path, self.follow.depth)?;
+        let went = go_through(
+            terrain,
+            masks,
+            self.source,
+            self.path.as_mut_slice(),
+            &mut self.rows,
+            &mut self.waits,
+            &mut self.follow,
+            &mut self.near,
+            number,
+            edge,
+        )?;
+        if !went {
+            unreachable!();
+        }
+        Ok(())
     }
 
     /// Follows the usual nodes that come first in the bytes, of so many that are to come, up to the first wrong one; others and

@@ -1,6 +1,6 @@
 //! Rows of bits in words, the least bit of each word first.
 
-ghost use Rattle.std.specs.Prelude.{◌≡◌, ◌+◌, ◌≤◌, take, length};
+ghost use Rattle.std.specs.Prelude.{◌≡◌, ◌+◌, ◌≤◌, true, take, length};
 ghost use Rattle.gate_floods.specs.RowJudge.Words.{both_words, has_bit, is_in, row_at, HasMet, IsCleared};
 
 /// Whether the number is in the row.
@@ -21,6 +21,37 @@ pub fn meet(row: &[u64], mask: &[u64]) -> bool
 {
     for k in 0..row.len().min(mask.len()) {
         if row[k] & mask[k] != 0 {
+            return true;
+        }
+    }
+    false
+}
+
+/// Whether a number is in both rows by this word. `false` says nothing.
+#[inline(always)]
+fn meet_at(row: &[u64], mask: &[u64], place: usize) -> bool
+    ensures { result ≡ true → has_bit (both_words row.now mask.now) ≡ true }
+{
+    if place >= row.len() || place >= mask.len() {
+        return false;
+    }
+    if row[place] & mask[place] != 0 {
+        return true;
+    }
+    false
+}
+
+/// Whether a number is in both rows, first by the word in which others met last: mostly they meet there.
+#[inline(always)]
+pub fn meet_near(row: &[u64], mask: &[u64], near: &mut usize) -> bool
+    ensures { result ≡ has_bit (both_words row.now mask.now) }
+{
+    if meet_at(row, mask, *near) {
+        return true;
+    }
+    for k in 0..row.len().min(mask.len()) {
+        if row[k] & mask[k] != 0 {
+            *near = k;
             return true;
         }
     }
@@ -60,8 +91,8 @@ fn clear_words(rows: &mut [u64], from: usize, count: usize)
 }
 
 /// Puts behind the row at this place, in place of what is there, the row of what the mask has too. All else stays.
-// no length changes: so more than one word is met at a time
-#[inline(always)]
+// no length changes: so more than one word is met at a time, which takes registers. Out of line they are its own
+#[inline(never)]
 pub fn put_both(rows: &mut [u64], at: usize, width: usize, mask: &[u64])
     requires mask { length mask.now ≤ width }
     requires room { at + width + width ≤ length rows.old }
