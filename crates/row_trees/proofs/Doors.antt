@@ -1,36 +1,51 @@
 -- A portal that has an end of the last one.
-use Rattle.std.proofs.Common.{◌≡◌, ◌≢◌, ◌-◌, ◌&&◌, true, false, ℤ, inl, inr, List, [], ◌∷◌, ◌++◌, Some, None, length, map, option_map, slice_get, refl, sym, ap, ◌∙◌, subst, arith, ℕ}
+use Rattle.std.proofs.Common.{◌≡◌, ◌≢◌, ◌-◌, ◌&&◌, true, false, ℕ, ℤ, inl, inr, List, [], ◌∷◌, ◌++◌, Some, None, length, option_map, slice_get, refl, sym, ap, ◌∙◌, subst, arith}
 use Rattle.std.specs.Ordering.{int_eq}
 use borrow.Author.Differences.{ints}
-use Rattle.std.proofs.lemmas.List.{length-map, map_push}
+use Rattle.std.proofs.lemmas.List.{length-map}
 use Rattle.std.proofs.lemmas.Option.{slice_get-get_or, slice_get-map}
 use Rattle.math_base.proofs.Options.{none_is_not_some, some_is_not_none, some_is_same}
 use Rattle.sight_names.specs.declared.names.Pt.{Pt}
 use Rattle.sight_names.specs.Splitting.{EndPoints, IsSplittable}
 use Rattle.sight_names.proofs.Records.{same_pt}
-use Rattle.stab_hull.specs.Sleeves.{HasLastLeft, HasLastRight}
+use Rattle.stab_hull.specs.declared.frame.Noted.{Noted}
+use Rattle.stab_hull.specs.Portals.{portal_of, portals_of}
+use Rattle.stab_hull.specs.Sleeves.{HasLastLeft, HasLastRight, frame_of, frames_of}
 use Rattle.portal_walk.proofs.OnePortal.{one_splittable}
-use Rattle.row_trees.specs.declared.path.Door.{Door}
-use Rattle.row_trees.specs.Path.{ends_of_door, HasEndOfLast}
+use Rattle.row_trees.specs.Path.{HasEndOfLast}
 
--- there is none where there is no last one
-pub none_there : (ds : List Door) → slice_get ds (length ds - 1) ≡ None → map ends_of_door ds ≡ []
-none_there [] h = refl
-none_there (d ∷ ds) h = absurd (some_is_not_none _ (sym (slice_get-get_or (d ∷ ds) (length (d ∷ ds) - 1) d (omega arith)) ∙ h))
+module _ {N : Type 0} where
+  -- there is none where there is no last one
+  pub none_there : (xs : List (Noted N)) → slice_get xs (length xs - 1) ≡ None → portals_of (frames_of xs) ≡ []
+  none_there [] h = refl
+  none_there (x ∷ xs) h = absurd (some_is_not_none _ (sym (slice_get-get_or (x ∷ xs) (length (x ∷ xs) - 1) x (omega arith)) ∙ h))
 
-last_end : (es : List EndPoints) (ds : List Door) (d : Door) → es ≡ map ends_of_door ds → slice_get ds (length ds - 1) ≡ Some d → slice_get es (length es - 1) ≡ Some (ends_of_door d)
-last_end es ds d same h =
-    ap (λ (us : List EndPoints). slice_get us (length us - 1)) same ∙ ap (λ (n : ℕ). slice_get (map ends_of_door ds) (n - 1)) (length-map ds ends_of_door) ∙ slice_get-map ends_of_door ds (length ds - 1) ∙ ap (option_map ends_of_door) h
+  -- no portal has ends where none is there
+  pub none_noted : (xs : List (Noted N)) → portals_of (frames_of xs) ≡ [] → xs ≡ []
+  none_noted [] h = refl
+  none_noted (x ∷ xs) h = cc
 
-pub has_left : (es : List EndPoints) (ds : List Door) (d : Door) (left : Pt) → es ≡ map ends_of_door ds → slice_get ds (length ds - 1) ≡ Some d → d.left ≡ left → HasLastLeft es left
-has_left es ds d left same there e = (ends_of_door d, last_end es ds d same there, e)
+  pub none_of : (xs : List (Noted N)) → xs ≡ [] → portals_of (frames_of xs) ≡ []
+  none_of xs h = ap (λ (us : List (Noted N)). portals_of (frames_of us)) h
 
-pub has_right : (es : List EndPoints) (ds : List Door) (d : Door) (left right : Pt) → es ≡ map ends_of_door ds → slice_get ds (length ds - 1) ≡ Some d → d.left ≢ left → HasEndOfLast es left right → HasLastRight es right
-has_right es ds d left right same there differ joins = elim joins as (λ _. HasLastRight es right) [
-  | inl none ↦ absurd (none_is_not_some (ends_of_door d) (sym (ap (λ (us : List EndPoints). slice_get us (length us - 1)) none) ∙ last_end es ds d same there))
+  last_end : (xs : List (Noted N)) (x : Noted N) → slice_get xs (length xs - 1) ≡ Some x → slice_get (portals_of (frames_of xs)) (length (portals_of (frames_of xs)) - 1) ≡ Some (portal_of x.frame)
+  last_end xs x h =
+      ap (λ (n : ℕ). slice_get (portals_of (frames_of xs)) (n - 1)) (length-map (frames_of xs) portal_of ∙ length-map xs frame_of) ∙ slice_get-map portal_of (frames_of xs) (length xs - 1)
+      ∙ ap (option_map portal_of) (slice_get-map frame_of xs (length xs - 1) ∙ ap (option_map frame_of) h)
+
+  pub last_left : (xs : List (Noted N)) (x : Noted N) → slice_get xs (length xs - 1) ≡ Some x → HasLastLeft (portals_of (frames_of xs)) x.frame.left
+  last_left xs x h = (portal_of x.frame, last_end xs x h, refl)
+
+-- the last left end is the portal's own, or the last right one is
+pub has_left : (es : List EndPoints) (last left : Pt) → HasLastLeft es last → last ≡ left → HasLastLeft es left
+has_left es last left h e = (h.0, h.1, h.2 ∙ e)
+
+pub has_right : (es : List EndPoints) (last left right : Pt) → HasLastLeft es last → last ≢ left → HasEndOfLast es left right → HasLastRight es right
+has_right es last left right h differ joins = elim joins as (λ _. HasLastRight es right) [
+  | inl none ↦ absurd (none_is_not_some h.0 (sym (ap (λ (us : List EndPoints). slice_get us (length us - 1)) none) ∙ h.1))
   | inr some ↦ elim some as (λ _. HasLastRight es right) [
-    | inl h ↦ absurd (differ (ap (λ (e : EndPoints). e.left) (some_is_same (ends_of_door d) h.0 (sym (last_end es ds d same there) ∙ h.1)) ∙ h.2))
-    | inr h ↦ h
+    | inl k ↦ absurd (differ (sym h.2 ∙ ap (λ (e : EndPoints). e.left) (some_is_same h.0 k.0 (sym h.1 ∙ k.1)) ∙ k.2))
+    | inr k ↦ k
   ]
 ]
 
@@ -51,7 +66,3 @@ other_point p q h = λ e. not_both p.x q.x p.y q.y h (ap (λ (r : Pt). r.x) e) (
 -- the first portal
 pub opened_first : (old new : List EndPoints) (e : EndPoints) → old ≡ [] → e.left ≢ e.right → new ≡ e ∷ [] → (new ≡ old ++ e ∷ []) × IsSplittable (old ++ e ∷ [])
 opened_first old new e none differ is = subst (λ (es : List EndPoints). (new ≡ es ++ e ∷ []) × IsSplittable (es ++ e ∷ [])) (sym none) (is, one_splittable e differ)
-
--- one more
-pub door_pushed : (old new : List Door) (d : Door) → new ≡ old ++ d ∷ [] → map ends_of_door new ≡ map ends_of_door old ++ ends_of_door d ∷ []
-door_pushed old new d is = ap (λ (ds : List Door). map ends_of_door ds) is ∙ map_push ends_of_door old d

@@ -3,6 +3,7 @@ use Rattle.std.proofs.Common.{◌≡◌, ◌≢◌, ℕ, ◌+◌, ◌<◌, ◌�
 use Rattle.std.specs.List.{AllByRecursion}
 use Rattle.std.proofs.lemmas.List.{length-append, length-take, take-append-le, take-take, take_all}
 use Rattle.math_base.proofs.Lists.{all_join, all_so}
+use Rattle.math_base.proofs.Options.{some_is_same}
 use Rattle.sight_names.specs.Splitting.{EndPoints, IsSplittable}
 use Rattle.block_evidence.specs.declared.Evidence.{Evidence}
 use Rattle.block_evidence.specs.Stuck.{Blocks}
@@ -24,7 +25,7 @@ use Rattle.gate_floods.specs.RowJudge.Masks.{MaskRows}
 use Rattle.gate_floods.specs.declared.row_judge.follow.Wait.{Wait}
 use Rattle.gate_floods.specs.declared.row_judge.walk.RowWalk.{RowWalk}
 use Rattle.gate_floods.specs.RowJudge.Words.{row_at, is_away}
-use Rattle.gate_floods.specs.RowJudge.Asked.{Pending, pending_way, pending_roots, with_rest, leaves, mask_at, row_through, way_asked, ways_behind, ways_through, ends_through, Answers, AreAnswered}
+use Rattle.gate_floods.specs.RowJudge.Asked.{Pending, pending_way, pending_roots, with_rest, leaves, mask_at, row_behind, row_through, way_asked, ways_behind, ways_through, ends_through, Answers, AreAnswered}
 use Rattle.gate_floods.specs.RowJudge.Path.{AreWaiting}
 use Rattle.gate_floods.specs.RowJudge.Judged.{StandsAt, IsWalked}
 use Rattle.gate_floods.proofs.RowJudge.Walking.{answered_more}
@@ -496,6 +497,14 @@ module _ (c : Scene) (s : Search) where
         away_more (row_through c.masks h.head) h.head.row x.sector (left_within h.head.row (mask_at c.masks h.head.edge)) (subst (λ (r : List ℕ). is_away r x.sector ≡ true) (sym h.row_is) free),
         ap (λ (a : ℕ). ways_through c.edges c.masks a h.head x ++ h.rest) (sym t.going.source_is),
       )
+
+  -- what is asked is the half-edge that is tried
+  pub asked_there : (root : ℕ) (ends : List EndPoints) (w : RowWalk) (found : List Reached) (x : HalfEdge) (n number : ℕ) → IsTried c s root ends w found x n → w.follow.asked ≡ Some number → slice_get c.edges number ≡ Some x
+  asked_there root ends w found x n number t e = subst (λ (i : ℕ). slice_get c.edges i ≡ Some x) (some_is_same t.number number (sym t.is_asked ∙ e)) t.there
+
+  -- what the row before a half-edge hasn't, the row behind it hasn't
+  pub away_asked : (w : RowWalk) (x : HalfEdge) (number : ℕ) → is_away (row_at w.rows.items c.masks.width w.follow.row) x.sector ≡ true → is_away (row_behind c.masks w.rows.items w.follow.row number) x.sector ≡ true
+  away_asked w x number free = away_more (row_behind c.masks w.rows.items w.follow.row number) (row_at w.rows.items c.masks.width w.follow.row) x.sector (left_within (row_at w.rows.items c.masks.width w.follow.row) (mask_at c.masks number)) free
 
   pub after_moved : (root later : ℕ) (ends other : List EndPoints) (w : RowWalk) (found more : List Reached) (n d : ℕ) → later ≡ root → other ≡ ends → more ≡ found → IsAfter c s root ends w found n d → IsAfter c s later other w more n d
   after_moved root later ends other w found more n d e f g h = rw (e, f, g) h

@@ -3,13 +3,12 @@ use Rattle.std.specs.Prelude.{◌≡◌, ℕ, ◌<◌, ◌≤◌, List, [], ◌�
 use Rattle.std.specs.List.{AllByRecursion}
 use Rattle.sight_names.specs.Sequence.{Sequence}
 use Rattle.sight_names.specs.Splitting.{EndPoints}
-use Rattle.block_evidence.specs.declared.sight_tree.Node.{Node}
 use Rattle.mesh_shape.specs.declared.half_edges.table.HalfEdge.{HalfEdge}
 use Rattle.portal_walk.specs.Scene.{IsNumber}
 use Rattle.portal_walk.specs.Sides.{IsExit}
 use Rattle.portal_walk.specs.Walk.{ComesBy, ends_of}
 use Rattle.pair_budget.specs.declared.results.Reached.{Reached}
-use Rattle.gate_floods.specs.RowJudge.Asked.{Pending, Answers}
+use Rattle.gate_floods.specs.RowJudge.Asked.{Pending}
 use Rattle.gate_floods.specs.RowJudge.Judged.{StandsAt}
 use Rattle.gate_floods.specs.RowJudge.Words.{is_in, is_away}
 use Rattle.gate_floods.specs.declared.row_judge.walk.RowWalk.{RowWalk}
@@ -75,7 +74,3 @@ module _ (c : Scene) (s : Search) where
   pub record IsAfter (root : ℕ) (ends : List EndPoints) (w : RowWalk) (found : List Reached) (limit depth : ℕ) : Type 0 where
     pub going : IsGoing root ends w found limit
     pub deeper : (k : ℕ) → w.follow.asked ≡ Some k → depth < w.follow.depth → IsPresent c.masks.width w
-
--- the node answers for what the walk asks
-abbrev pub CanAnswer : Scene → Node → RowWalk → Type 0
-CanAnswer c n w = (first : List ℕ) × (ps : List Pending) × (qs : List Pending) × StandsAt c.masks first c.roots w ps × Answers c.edges c.masks w.source ps n qs

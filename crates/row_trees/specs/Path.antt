@@ -3,10 +3,6 @@ use Rattle.std.specs.Prelude.{◌≡◌, ◌⊎◌, List, []}
 use Rattle.sight_names.specs.declared.names.Pt.{Pt}
 use Rattle.sight_names.specs.Splitting.{EndPoints}
 use Rattle.stab_hull.specs.Sleeves.{HasLastLeft, HasLastRight}
-use Rattle.row_trees.specs.declared.path.Door.{Door}
-
-abbrev pub ends_of_door : Door → EndPoints
-ends_of_door d = record { left = d.left; right = d.right }
 
 -- a portal with these ends has one of the last portal, if there is a last one
 abbrev pub HasEndOfLast : List EndPoints → Pt → Pt → Type 0

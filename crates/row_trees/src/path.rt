@@ -1,63 +1,32 @@
 //! The portals that a walk has gone through, each with an end of the one before.
 
-ghost use Rattle.std.specs.Prelude.{◌≡◌, ◌≢◌, ◌<◌, ◌≤◌, [], length, take, map};
+ghost use Rattle.std.specs.Prelude.{◌≡◌, ◌≢◌, ◌<◌, ◌≤◌, [], MatchOption, length, take};
 ghost use Rattle.sight_names.specs.Splitting.{SplitsEnds};
 ghost use Rattle.stab_hull.specs.Answer.{IsLineInRange, IsPassed};
-ghost use Rattle.row_trees.specs.Path.{HasEndOfLast, ends_of_door};
+ghost use Rattle.stab_hull.specs.Sleeves.{HasLastLeft, HasLastRight};
+ghost use Rattle.row_trees.specs.Path.{HasEndOfLast};
 
 use sight_names::{Memory, Pt, RIGHT_END};
-use stab_hull::{Passed, Sleeve};
+use stab_hull::{Passed, Told, Track};
 use std::alloc::Global;
 use std::marker::Model;
 
-/// The ends of a portal.
-#[derive(Clone, Copy)]
-pub struct Door {
-    pub left: Pt,
-    pub right: Pt,
-}
-
-/// Portals that a line passes. Their ends are kept beside the sleeve, to tell which end of the last one a new one has.
+/// Portals that a line passes.
 #[derive(Drop)]
 pub struct Path {
-    doors: Vec<Door>,
-    sleeve: Sleeve,
+    track: Track<()>,
 }
 
 impl Model for Path {
-    ghost use Rattle.std.specs.Prelude.{◌≡◌, List, map};
+    ghost use Rattle.std.specs.Prelude.{List};
     ghost use Rattle.sight_names.specs.Splitting.{EndPoints};
-    ghost use Rattle.row_trees.specs.Path.{ends_of_door};
+    ghost use Rattle.stab_hull.specs.Sleeves.{IsTrack, ends_of};
 
     ghost Value = { List EndPoints };
 
-    ghost view = { λ p. map ends_of_door p.doors.items };
+    ghost view = { λ p. ends_of p.track };
 
-    ghost invariant = { λ p. p.sleeve ≡ map ends_of_door p.doors.items };
-}
-
-/// Adds a portal that has an end of the last one of these.
-#[inline(always)]
-fn go(doors: &[Door], sleeve: &mut Sleeve, left: Pt, right: Pt) -> Result<Passed, Memory>
-    requires same { sleeve.old ≡ map ends_of_door doors.now }
-    requires proper { left ≢ right }
-    requires room { length sleeve.old < RIGHT_END }
-    requires joins { HasEndOfLast sleeve.old left right }
-    ensures { IsPassed sleeve.old (record { left = left; right = right }) sleeve.new result }
-{
-    match doors.last() {
-        None => {
-            sleeve.begin(left, right)?;
-            Ok(Passed::Open)
-        }
-        Some(last) => {
-            if last.left == left {
-                sleeve.by_left(left, right)
-            } else {
-                sleeve.by_right(left, right)
-            }
-        }
-    }
+    ghost invariant = { λ p. IsTrack p.track };
 }
 
 impl Path {
@@ -66,8 +35,49 @@ impl Path {
         ensures { result ≡ [] }
     {
         Path {
-            doors: Vec::new(alloc),
-            sleeve: Sleeve::new(alloc),
+            track: Track::new(alloc),
+        }
+    }
+
+    /// The left end of the last portal, if there is one.
+    #[inline(always)]
+    fn last_left(&self) -> Option<Pt>
+        ensures { MatchOption result (self.now ≡ []) (HasLastLeft self.now) }
+    {
+        match self.track.portals.as_slice().last() {
+            Some(last) => Some(last.frame.left),
+            None => None,
+        }
+    }
+
+    /// Adds the portal from the last left end to this right end, as `pass` does.
+    // what comes of it is taken apart at once: it needn't stand in memory
+    #[inline(always)]
+    fn by_left(&mut self, left: Pt, right: Pt) -> Result<Passed, Memory>
+        requires last { HasLastLeft self.old left }
+        requires proper { left ≢ right }
+        requires room { length self.old < RIGHT_END }
+        ensures { IsPassed self.old (record { left = left; right = right }) self.new result }
+    {
+        match self.track.by_left((), left, right)? {
+            Told::Open => Ok(Passed::Open),
+            Told::Stuck(evidence) => Ok(Passed::Stuck(evidence)),
+            Told::Unseen => self.track.by_search((), left, right),
+        }
+    }
+
+    /// The same from this left end to the last right end.
+    #[inline(always)]
+    fn by_right(&mut self, left: Pt, right: Pt) -> Result<Passed, Memory>
+        requires last { HasLastRight self.old right }
+        requires proper { left ≢ right }
+        requires room { length self.old < RIGHT_END }
+        ensures { IsPassed self.old (record { left = left; right = right }) self.new result }
+    {
+        match self.track.by_right((), left, right)? {
+            Told::Open => Ok(Passed::Open),
+            Told::Stuck(evidence) => Ok(Passed::Stuck(evidence)),
+            Told::Unseen => self.track.by_search((), left, right),
         }
     }
 
@@ -78,11 +88,10 @@ impl Path {
         ensures { self.new ≡ take count self.old }
     {
         // most often none is behind them
-        if count == self.doors.len() {
+        if count == self.track.portals.len() {
             return;
         }
-        self.doors.truncate(count);
-        self.sleeve.cut(count);
+        self.track.cut(count);
     }
 
     /// Adds a portal that has an end of the last one, where a line splits its ends and all others; where none does, the list
@@ -94,13 +103,18 @@ impl Path {
         requires joins { HasEndOfLast self.old left right }
         ensures { IsPassed self.old (record { left = left; right = right }) self.new result }
     {
-        self.doors.reserve(1)?;
-        match go(self.doors.as_slice(), &mut self.sleeve, left, right)? {
-            Passed::Open => {
-                self.doors.push_reserved(Door { left, right });
+        match self.last_left() {
+            None => {
+                self.track.begin((), left, right)?;
                 Ok(Passed::Open)
             }
-            Passed::Stuck(evidence) => Ok(Passed::Stuck(evidence)),
+            Some(last) => {
+                if last == left {
+                    self.by_left(left, right)
+                } else {
+                    self.by_right(left, right)
+                }
+            }
         }
     }
 
@@ -110,6 +124,6 @@ impl Path {
         ensures splits { SplitsEnds self.now result.0 result.1 result.2 }
         ensures range { IsLineInRange result.0 result.1 result.2 }
     {
-        self.sleeve.line()
+        self.track.line()
     }
 }

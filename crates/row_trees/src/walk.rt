@@ -1,17 +1,17 @@
 //! A walk of a source by a row.
 
-ghost use Rattle.std.specs.Prelude.{◌≡◌, ◌≢◌, ◌⊎◌, ◌+◌, ◌<◌, ◌++◌, ◌∷◌, [], ℕ, List, Some as Given, All, length, true, false, IfOk, OnOk};
+ghost use Rattle.std.specs.Prelude.{◌≡◌, ◌≢◌, ◌⊎◌, ◌+◌, ◌<◌, ◌++◌, ◌∷◌, [], ℕ, List, Some as Given, All, length, slice_get, true, false, IfOk, OnOk};
 ghost use Rattle.sight_names.specs.Splitting.{EndPoints, IsSplittable};
 ghost use Rattle.block_evidence.specs.declared.sight_tree.Node.TheVariants.{Open};
 ghost use Rattle.mesh_shape.specs.declared.half_edges.table.HalfEdge.{HalfEdge as HalfEdgeOf};
 ghost use Rattle.portal_walk.specs.Nodes.{IsAnswered};
 ghost use Rattle.portal_walk.specs.Walk.{ends_of};
 ghost use Rattle.stab_hull.specs.Answer.{IsBarredBy};
-ghost use Rattle.gate_floods.specs.RowJudge.Asked.{Answers, Pending};
+ghost use Rattle.gate_floods.specs.RowJudge.Asked.{Answers, Pending, row_behind};
 ghost use Rattle.gate_floods.specs.RowJudge.Judged.{AsksNothing, StandsAt};
 ghost use Rattle.gate_floods.specs.RowJudge.Masks.{rows_of};
 ghost use Rattle.gate_floods.specs.RowJudge.Words.{is_away, row_at};
-ghost use Rattle.row_trees.specs.Going.{CanAnswer, IsAfter, IsGoing, IsTried};
+ghost use Rattle.row_trees.specs.Going.{IsAfter, IsGoing, IsTried};
 ghost use Rattle.row_trees.specs.Made.{AreSeen, AreWanted, IsMade, IsMadeSoFar};
 ghost use Rattle.row_trees.specs.Thinner.{IsPresent};
 ghost use Rattle.row_trees.specs.Walkable.{Ground, IsWalkable, Search, scene_of};
@@ -82,15 +82,20 @@ impl Walk {
         }
     }
 
-    /// Goes through what is asked, as its judge would, and keeps the open node while nothing was found.
+    /// Goes through the half-edge that is asked, this one, as its judge would, and keeps the open node while nothing was found.
     #[inline(always)]
     fn enter(
         &mut self,
         terrain: &Terrain<'_>,
         masks: &Masks<'_>,
+        number: u32,
+        edge: &HalfEdge,
         made: &mut Made,
     ) -> Result<(), Memory>
-        requires right { CanAnswer (scene_of terrain.now masks.now) Open self.old.judged }
+        requires asked { self.old.judged.follow.asked ≡ Given number }
+        requires there { slice_get terrain.now.edges.now number ≡ Given edge.now }
+        requires away { is_away (row_behind (rows_of masks.now) self.old.judged.rows.items self.old.judged.follow.row number) edge.now.sector ≡ true }
+        requires stands { (first : List ℕ) × (ps : List Pending) × StandsAt (rows_of masks.now) first terrain.now.roots.now.roots.items self.old.judged ps }
         ensures stands { (first : List ℕ) (ps qs : List Pending) → StandsAt (rows_of masks.now) first terrain.now.roots.now.roots.items self.old.judged ps → Answers terrain.now.edges.now (rows_of masks.now) self.old.judged.source ps Open qs → IfOk result (λ _. StandsAt (rows_of masks.now) first terrain.now.roots.now.roots.items self.new.judged qs) }
         ensures source { self.new.judged.source ≡ self.old.judged.source }
         ensures ends { self.new.ends ≡ self.old.ends }
@@ -99,7 +104,7 @@ impl Walk {
         ensures made { (row : List ℕ) (source : ℕ) → IsMadeSoFar terrain.now.edges.now (rows_of masks.now) row terrain.now.roots.now.roots.items terrain.now.roots.now.first.items source self.old.judged made.old → IfOk result (λ _. IsMadeSoFar terrain.now.edges.now (rows_of masks.now) row terrain.now.roots.now.roots.items terrain.now.roots.now.first.items source self.new.judged made.new) }
         ensures answered { All IsAnswered made.old.nodes → IfOk result (λ _. All IsAnswered made.new.nodes) }
     {
-        self.judged.step(terrain, masks, Node::Open)?;
+        self.judged.go(terrain, masks, number, edge)?;
         keep(made, Node::Open)
     }
 
@@ -115,6 +120,7 @@ impl Walk {
         requires tried { (s : Search) × (n : ℕ) × (before : List EndPoints) × (self.old.ends ≡ before ++ ends_of edge.now ∷ []) × IsTried (scene_of terrain.now masks.now) s self.old.root before self.old.judged made.old.found.items edge.now n }
         ensures tried { (s : Search) (n : ℕ) (before : List EndPoints) → self.old.ends ≡ before ++ ends_of edge.now ∷ [] → IsTried (scene_of terrain.now masks.now) s self.old.root before self.old.judged made.old.found.items edge.now n → IfOk result (λ _. IsTried (scene_of terrain.now masks.now) s self.new.root before self.new.judged made.new.found.items edge.now n) }
         ensures away { IfOk result (λ _. is_away (row_at self.new.judged.rows.items masks.now.width self.new.judged.follow.row) edge.now.sector ≡ true) }
+        ensures asked { self.new.judged.follow.asked ≡ self.old.judged.follow.asked }
         ensures ends { self.new.ends ≡ self.old.ends }
         ensures made { (row : List ℕ) (source : ℕ) → IsMadeSoFar terrain.now.edges.now (rows_of masks.now) row terrain.now.roots.now.roots.items terrain.now.roots.now.first.items source self.old.judged made.old → IfOk result (λ _. IsMadeSoFar terrain.now.edges.now (rows_of masks.now) row terrain.now.roots.now.roots.items terrain.now.roots.now.first.items source self.new.judged made.new) }
         ensures answered { All IsAnswered made.old.nodes → IfOk result (λ _. All IsAnswered made.new.nodes) }
@@ -135,9 +141,11 @@ impl Walk {
         &mut self,
         terrain: &Terrain<'_>,
         masks: &Masks<'_>,
+        number: u32,
         edge: &HalfEdge,
         made: &mut Made,
     ) -> Result<(), Memory>
+        requires asked { self.old.judged.follow.asked ≡ Given number }
         requires splittable { IsSplittable self.old.ends }
         requires tried { (s : Search) × (n : ℕ) × (before : List EndPoints) × (self.old.ends ≡ before ++ ends_of edge.now ∷ []) × IsTried (scene_of terrain.now masks.now) s self.old.root before self.old.judged made.old.found.items edge.now n }
         ensures after { (s : Search) (n : ℕ) (before : List EndPoints) → self.old.ends ≡ before ++ ends_of edge.now ∷ [] → IsTried (scene_of terrain.now masks.now) s self.old.root before self.old.judged made.old.found.items edge.now (n + 1) → IfOk result (λ _. IsAfter (scene_of terrain.now masks.now) s self.new.root self.new.ends self.new.judged made.new.found.items n (length before)) }
@@ -145,7 +153,7 @@ impl Walk {
         ensures answered { All IsAnswered made.old.nodes → IfOk result (λ _. All IsAnswered made.new.nodes) }
     {
         self.find(terrain, masks, edge, made)?;
-        self.enter(terrain, masks, made)
+        self.enter(terrain, masks, number, edge, made)
     }
 
     /// Turns back before what is asked, since these ends block it. The judge needn't test them again, and once something was
@@ -174,16 +182,18 @@ impl Walk {
         &mut self,
         terrain: &Terrain<'_>,
         masks: &Masks<'_>,
+        number: u32,
         edge: &HalfEdge,
         made: &mut Made,
     ) -> Result<(), Memory>
+        requires asked { self.old.judged.follow.asked ≡ Given number }
         requires tried { (s : Search) × (n : ℕ) × IsTried (scene_of terrain.now masks.now) s self.old.root self.old.ends self.old.judged made.old.found.items edge.now n }
         ensures after { (s : Search) (n : ℕ) → IsTried (scene_of terrain.now masks.now) s self.old.root self.old.ends self.old.judged made.old.found.items edge.now (n + 1) → IfOk result (λ _. IsAfter (scene_of terrain.now masks.now) s self.new.root self.new.ends self.new.judged made.new.found.items n (length self.old.ends)) }
         ensures made { (row : List ℕ) (source : ℕ) → IsMadeSoFar terrain.now.edges.now (rows_of masks.now) row terrain.now.roots.now.roots.items terrain.now.roots.now.first.items source self.old.judged made.old → IfOk result (λ _. IsMadeSoFar terrain.now.edges.now (rows_of masks.now) row terrain.now.roots.now.roots.items terrain.now.roots.now.first.items source self.new.judged made.new) }
         ensures answered { All IsAnswered made.old.nodes → IfOk result (λ _. All IsAnswered made.new.nodes) }
     {
         match self.ends.pass(edge.left_at, edge.right_at)? {
-            Passed::Open => self.go_through(terrain, masks, edge, made),
+            Passed::Open => self.go_through(terrain, masks, number, edge, made),
             Passed::Stuck(evidence) => self.turn_back(terrain, masks, evidence, made),
         }
     }
@@ -223,13 +233,15 @@ impl Walk {
         let depth = self.judged.follow.depth;
         self.root = root_at(depth, number, self.root);
         self.ends.cut(depth);
-        self.try_edge(terrain, masks, edge, made)?;
+        self.try_edge(terrain, masks, number, edge, made)?;
         self.come_back(terrain, masks, depth, made);
         Ok(())
     }
 }
 
 /// Walks the source with this row of what is wanted.
+// out of line, and all that it calls is in line: its registers are its own
+#[inline(never)]
 pub fn walk_by_row(
     alloc: Global,
     walk: &mut Walk,

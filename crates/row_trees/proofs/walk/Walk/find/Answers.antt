@@ -1,5 +1,6 @@
-use Rattle.std.proofs.Common.{List, subst, sym, ◌∙◌}
+use Rattle.std.proofs.Common.{List, subst, sym, ◌∙◌, ap}
 use Rattle.pair_budget.specs.declared.results.Reached.{Reached}
+use Rattle.gate_floods.specs.declared.row_judge.follow.RowFollow.{RowFollow}
 use Rattle.gate_floods.specs.RowJudge.Words.{row_at}
 use Rattle.row_trees.specs.Going.{IsTried}
 use Rattle.row_trees.specs.Walkable.{scene_of}
@@ -35,3 +36,6 @@ returns-clause-away c =
     away_in (row_at new.rows.items width new.follow.row) c.args.edge.now.sector c.in-Some.to
     (wanted_some w.judged.rows.items width w.judged.follow.row c.args.edge.now c.in-Some.to (sym c.wanted.ensures ∙ c.in-Some.is)).0
     (out_of (row_at new.rows.items width new.follow.row) (row_at new.rows.items width 0) c.in-Some.to c.forget.ensures.present c.forget.ensures.gone)
+
+pub returns-clause-asked : goal.returns-clause-asked
+returns-clause-asked c = ap (λ (f : RowFollow). f.asked) c.forget.ensures.same.follow

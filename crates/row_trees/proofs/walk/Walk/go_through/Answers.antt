@@ -5,17 +5,28 @@ use Rattle.gate_floods.specs.RowJudge.Asked.{ways_through}
 use Rattle.gate_floods.proofs.RowJudge.Telling.{all_ok}
 use Rattle.row_trees.specs.Going.{IsAfter}
 use Rattle.row_trees.specs.Walkable.{scene_of}
-use Rattle.row_trees.proofs.Going.{head_of, open_right, opened, after_moved}
+use Rattle.row_trees.proofs.Going.{head_of, open_right, opened, after_moved, asked_there, away_asked}
 use Rattle.row_trees.proofs.walk.Walk.go_through.Goals as goal
 
-pub enter-requires : goal.enter-requires
-enter-requires c =
+pub enter-requires-clause-asked : goal.enter-requires-clause-asked
+enter-requires-clause-asked c = c.find.ensures.asked ∙ c.requires.asked
+
+pub enter-requires-clause-there : goal.enter-requires-clause-there
+enter-requires-clause-there c =
     let k = scene_of c.args.terrain.now c.args.masks.now in
     let r = c.requires.tried in
     let v = c.find.new in
     let t = c.in_ok-find.ensures.tried r.0 r.1 r.2 r.3 r.4 in
-    let h = head_of k r.0 v.self.root r.2 v.self.judged v.made.found.items c.args.edge.now r.1 t in
-    record { right = (t.going.first, t.going.asked, _, t.going.at, open_right k r.0 v.self.root r.2 v.self.judged v.made.found.items c.args.edge.now r.1 t c.in_ok-find.ensures.away) }
+    asked_there k r.0 v.self.root r.2 v.self.judged v.made.found.items c.args.edge.now r.1 c.args.number t (c.find.ensures.asked ∙ c.requires.asked)
+
+pub enter-requires-clause-away : goal.enter-requires-clause-away
+enter-requires-clause-away c = away_asked (scene_of c.args.terrain.now c.args.masks.now) c.requires.tried.0 c.find.new.self.judged c.args.edge.now c.args.number c.in_ok-find.ensures.away
+
+pub enter-requires-clause-stands : goal.enter-requires-clause-stands
+enter-requires-clause-stands c =
+    let r = c.requires.tried in
+    let t = c.in_ok-find.ensures.tried r.0 r.1 r.2 r.3 r.4 in
+    (t.going.first, t.going.asked, t.going.at)
 
 pub returns-clause-after : goal.returns-clause-after
 returns-clause-after c = λ s n before e first.

@@ -11,18 +11,15 @@ cut-requires c =
     let r = c.requires.going in
     depth_within (scene_of c.args.terrain.now c.args.masks.now) r.0 w.root w.ends w.judged c.args.made.now.found.items r.1 c.args.number r.2 c.requires.asked
 
-pub try_edge-requires : goal.try_edge-requires
-try_edge-requires c =
+pub try_edge-requires-clause-tried : goal.try_edge-requires-clause-tried
+try_edge-requires-clause-tried c =
     let w = c.args.self.now in
-    let r = c.requires.going in
-    record {
-      tried = (
-        r.0,
-        r.1,
-        tried (scene_of c.args.terrain.now c.args.masks.now) r.0 w.root c.root_at-self.result c.args.number w.ends c.cut.new.self w.judged c.args.made.now.found.items c.unwrap-edge.result.now r.1 r.2 c.requires.asked c.requires.present
-            (sym c.get.ensures ∙ ap option_copied c.unwrap-edge.ensures) c.cut.ensures c.root_at-self.ensures,
-      );
-    }
+    let r = c.requires.going in (
+      r.0,
+      r.1,
+      tried (scene_of c.args.terrain.now c.args.masks.now) r.0 w.root c.root_at-self.result c.args.number w.ends c.cut.new.self w.judged c.args.made.now.found.items c.unwrap-edge.result.now r.1 r.2 c.requires.asked c.requires.present
+          (sym c.get.ensures ∙ ap option_copied c.unwrap-edge.ensures) c.cut.ensures c.root_at-self.ensures,
+    )
 
 pub come_back-requires : goal.come_back-requires
 come_back-requires c =
