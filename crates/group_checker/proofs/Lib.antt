@@ -10,3 +10,4 @@ pub mod Ending
 pub mod OneAny
 pub mod SameAnyBits
 pub mod CheckWorkers
+pub mod Placing
