@@ -1,7 +1,7 @@
 -- What tells which claims a group owns.
-use Rattle.std.specs.Prelude.{◌≡◌, ℕ, ◌<◌, List, Some, get_or, length, slice_get, true}
+use Rattle.std.specs.Prelude.{◌≡◌, ℕ, ◌<◌, ◌≤◌, List, Some, get_or, length, slice_get, true}
 use Rattle.sight_names.specs.declared.names.PairRay.{PairRay}
-use Rattle.gate_floods.specs.Bits.{is_owned, rank_of}
+use Rattle.gate_floods.specs.Bits.{is_owned, rank_of, ranks_before}
 use Rattle.gate_floods.specs.declared.gate_masks.masks.Row.{Row}
 use Rattle.exact_checker.specs.declared.owning.Owning.{Owning}
 use Rattle.exact_checker.specs.Rows.{AreJoinedRows}
@@ -39,3 +39,11 @@ pub record KnowsOwning (rays : List PairRay) (known : OwningParts) : Type 0 wher
 -- of n groups those that one owns
 abbrev pub IsOwnedBit : List PairRay → List ℕ → ℕ → ℕ → ℕ → Type 0
 IsOwnedBit rays components n f k = (k < n) × (is_owned rays components (rank_of rays n) f k ≡ true)
+
+-- the group is of this component, and has at least this rank
+abbrev pub RanksFrom : OwningParts → ℕ → ℕ → ℕ → Type 0
+RanksFrom known component least k = (get_or known.components k 0 ≡ component) × (least ≤ rank_at known.ranks k)
+
+-- the group ranks behind the other in its component
+abbrev pub IsBehind : OwningParts → ℕ → ℕ → Type 0
+IsBehind known f k = (k < known.count) × (get_or known.components k 0 ≡ get_or known.components f 0) × (ranks_before (rank_at known.ranks) f k ≡ true)

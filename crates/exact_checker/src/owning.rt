@@ -1,14 +1,13 @@
 //! The claims that each group owns, as a row of bits.
 
-ghost use Rattle.std.specs.Prelude.{◌≡◌, ◌*◌, ◌<◌, ◌≤◌, ◌==◌, ℕ, List, IfOk, get_or, length};
+ghost use Rattle.std.specs.Prelude.{◌≡◌, ◌+◌, ◌*◌, ◌<◌, ◌≤◌, ◌↔◌, ℕ, List, IfOk, IsTrue, length, slice_index};
+ghost use Rattle.std.specs.Int.{bit_at};
 ghost use Rattle.sight_names.specs.declared.names.PairRay.{PairRay as RayOf};
-ghost use Rattle.gate_floods.specs.Bits.{is_owned as is_owned_of, rank_of, ranks_before as ranks_before_of};
 ghost use Rattle.gate_floods.specs.GateMasks.Words.{HasBit, AreBitsOf};
-ghost use Rattle.exact_checker.specs.Owning.{rank_at, owning_of, IsOwnedBit, IsSized, KnowsOwning};
+ghost use Rattle.exact_checker.specs.Owning.{owning_of, IsBehind, IsOwnedBit, IsSized, KnowsOwning, RanksFrom};
 
-use crate::joining::is_in;
+use crate::joining::words_of;
 use gate_floods::gate_masks::Row;
-use gate_floods::gate_masks::words::set_bit;
 use sight_names::Memory;
 use std::alloc::Global;
 
@@ -21,37 +20,79 @@ pub struct Owning<'a> {
     pub joined: &'a [Row],
 }
 
-/// Whether the one group ranks before the other: of fewer that are joined with it, or of as many and with the smaller
-/// number.
-fn ranks_before(ranks: &[u16], one: u16, other: u16) -> bool
-    requires one { one < length ranks.now }
-    requires other { other < length ranks.now }
-    ensures { result ≡ ranks_before_of (rank_at ranks.now) one other }
-{
-    let (rank, behind) = (ranks[one as usize], ranks[other as usize]);
-    rank < behind || (rank == behind && one < other)
-}
-
-/// Whether the two groups are of one component.
-fn are_connected(components: &[u16], one: u16, other: u16) -> bool
-    requires one { one < length components.now }
-    requires other { other < length components.now }
-    ensures { result ≡ (get_or components.now one 0 == get_or components.now other 0) }
-{
-    components[one as usize] == components[other as usize]
-}
-
-/// Whether the one group owns the claim of the two.
-fn is_owned(known: Owning<'_>, one: u16, other: u16) -> bool
-    requires one { one < known.count }
-    requires other { other < known.count }
+/// Whether the group is of this component and has at least this rank.
+fn ranks_from(known: Owning<'_>, component: u16, least: u32, group: usize) -> bool
+    requires group { group < known.count }
     requires sized { IsSized (owning_of known) }
-    ensures { (rays : List RayOf) → KnowsOwning rays (owning_of known.entry) → result ≡ is_owned_of rays known.entry.components.now (rank_of rays known.entry.count) one other }
+    ensures { IsTrue result ↔ RanksFrom (owning_of known.entry) component least group }
 {
-    if !are_connected(known.components, one, other) {
-        return false;
+    known.components[group] == component && u32::from(known.ranks[group]) >= least
+}
+
+/// Of the groups from the one number on to the other those that are of this component and have at least this rank. The
+/// bit of each says how far it is from the first number of the word.
+fn ranking_from(
+    known: Owning<'_>,
+    component: u16,
+    least: u32,
+    first: usize,
+    from: usize,
+    to: usize,
+) -> u64
+    requires first { first ≤ from }
+    requires order { from ≤ to }
+    requires word { to ≤ first + 64 }
+    requires count { to ≤ known.count }
+    requires sized { IsSized (owning_of known) }
+    ensures { (i : ℕ) → (bit_at result i ≡ 1) ↔ ((from ≤ first + i) × (first + i < to) × RanksFrom (owning_of known.entry) component least (first + i)) }
+{
+    let mut bits: u64 = 0;
+    for other in from..to {
+        if ranks_from(known, component, least, other) {
+            bits |= 1 << (other - first);
+        }
     }
-    ranks_before(known.ranks, one, other) && !is_in(known.joined, one, other)
+    bits
+}
+
+/// The word at this place of the row of the groups that rank behind the source in its component: of those with a smaller
+/// number none that has its rank.
+fn behind_word(known: Owning<'_>, source: u16, place: usize) -> u64
+    requires source { source < known.count }
+    requires place { 64 * place ≤ known.count }
+    requires sized { IsSized (owning_of known) }
+    ensures { (i : ℕ) → i < 64 → (bit_at result i ≡ 1) ↔ IsBehind (owning_of known.entry) source (64 * place + i) }
+{
+    let first = 64 * place;
+    let end = (first + 64).min(known.count as usize);
+    let begin = (source as usize + 1).max(first);
+    let middle = begin.min(end);
+    let component = known.components[source as usize];
+    let rank = u32::from(known.ranks[source as usize]);
+    let smaller = ranking_from(known, component, rank + 1, first, first, middle);
+    let greater = ranking_from(known, component, rank, first, middle, end);
+    smaller | greater
+}
+
+/// The word at this place, none where there is none.
+fn word_at(words: &[u64], place: usize) -> u64
+    ensures { result ≡ slice_index words.now place }
+{
+    match words.get(place) {
+        Some(word) => *word,
+        None => 0,
+    }
+}
+
+/// The word at this place of the row of what the source owns.
+fn owned_word(known: Owning<'_>, source: u16, place: usize) -> u64
+    requires source { source < known.count }
+    requires place { 64 * place ≤ known.count }
+    requires sized { IsSized (owning_of known) }
+    ensures { (rays : List RayOf) → KnowsOwning rays (owning_of known.entry) → (i : ℕ) → i < 64 → (bit_at result i ≡ 1) ↔ IsOwnedBit rays known.entry.components.now known.entry.count source (64 * place + i) }
+{
+    let joined = word_at(words_of(known.joined, source), place);
+    behind_word(known, source, place) & !joined
 }
 
 /// Puts into the row, which is empty, the groups whose claims the source owns.
@@ -62,10 +103,8 @@ fn put_owned(words: &mut [u64], known: Owning<'_>, source: u16)
     requires none { (c : ℕ) → ¬ HasBit words.old c }
     ensures { (rays : List RayOf) → KnowsOwning rays (owning_of known.entry) → AreBitsOf words.new (IsOwnedBit rays known.entry.components.now known.entry.count source) }
 {
-    for other in 0..known.count {
-        if is_owned(known, source, other) {
-            set_bit(words, other);
-        }
+    for place in 0..(known.count as usize).div_ceil(64) {
+        words[place] = owned_word(known, source, place);
     }
 }
 

@@ -1,17 +1,13 @@
-use Rattle.std.proofs.Common.{sym, ◌∙◌, arith}
-use Rattle.gate_floods.specs.Bits.{rank_of, is_owned as is_owned_of}
-use Rattle.exact_checker.proofs.Owned.{none_put, bit_more, bit_skipped, all_put}
+use Rattle.std.proofs.Common.{arith, rules}
+use Rattle.exact_checker.specs.Owning.{IsOwnedBit}
+use Rattle.exact_checker.proofs.Owned.{none_put, word_put, all_put}
 use Rattle.exact_checker.proofs.owning.put_owned.Goals as goal
-use Rattle.exact_checker.proofs.owning.put_owned.Goals.{then-is_owned, else-is_owned}
 
-pub loop-other-init : goal.loop-other-init
-loop-other-init c = λ rays are. none_put (is_owned_of rays c.args.known.components.now (rank_of rays c.args.known.count) c.args.source) c.args.words.now c.requires.none
+pub loop-place-init : goal.loop-place-init
+loop-place-init c = λ rays are. none_put (IsOwnedBit rays c.args.known.components.now c.args.known.count c.args.source) c.args.words.now c.requires.none
 
-pub loop-other-preserved : goal.loop-other-preserved
-loop-other-preserved c = elim c.if-is_owned.branch [
-  | then-is_owned w ↦ rw w.words-is (λ rays are. bit_more (is_owned_of rays c.args.known.components.now (rank_of rays c.args.known.count) c.args.source) c.loop-other.other c.loop-other.words (c.loop-other.invariant rays are) w.set_bit.new.words (sym (c.is_owned.ensures rays are) ∙ w.if-is_owned.true) w.set_bit.ensures.set w.set_bit.ensures.others)
-  | else-is_owned w ↦ rw w.words-is (λ rays are. bit_skipped (is_owned_of rays c.args.known.components.now (rank_of rays c.args.known.count) c.args.source) c.loop-other.other c.loop-other.words (c.loop-other.invariant rays are) (sym (c.is_owned.ensures rays are) ∙ w.if-is_owned.false))
-]
+pub loop-place-preserved : goal.loop-place-preserved
+loop-place-preserved c = λ rays are. word_put (IsOwnedBit rays c.args.known.components.now c.args.known.count c.args.source) c.loop-place.place c.owned_word.result c.loop-place.words (c.loop-place.invariant rays are) (search rules) (c.owned_word.ensures rays are)
 
 pub returns : goal.returns
-returns c = λ rays are. all_put (is_owned_of rays c.args.known.components.now (rank_of rays c.args.known.count) c.args.source) c.loop-other.other c.args.known.count c.loop-other.words (omega arith) (c.loop-other.invariant rays are)
+returns c = λ rays are. all_put (IsOwnedBit rays c.args.known.components.now c.args.known.count c.args.source) c.loop-place.place c.args.known.count c.loop-place.words (omega arith) (λ k h. h.0) (c.loop-place.invariant rays are)

@@ -1,4 +1,4 @@
-use Rattle.std.proofs.Common.{List, ℕ, refl, ◌∙◌, ap, arith}
+use Rattle.std.proofs.Common.{List, ℕ, ◌*◌, min, length, refl, ◌∙◌, ap, arith}
 use Rattle.std.proofs.lemmas.Option.{slice_get_read}
 use Rattle.math_base.proofs.Lists.{length_pushed}
 use Rattle.gate_floods.specs.Bits.{bits_from, count_bits}
@@ -9,10 +9,10 @@ use Rattle.exact_checker.proofs.ranking.ranks_of.Goals as goal
 pub loop-row-preserved : goal.loop-row-preserved
 loop-row-preserved c =
     rw c.in_ok-push.ensures.items (record {
-      len = let e = length_pushed c.loop-row.ranks.items c.count_below.result in let l = c.loop-row.invariant.len in omega (arith, e, l);
-      ranks = λ rays are. ranks_more c.args.count c.loop-row.row-index rays c.loop-row.ranks.items c.count_below.result (c.loop-row.invariant.ranks rays are)
-          (rank_is c.args.count rays c.args.joined.now are c.loop-row.row-index c.row-item.result c.count_below.result (slice_get_read c.args.joined.now _ c.loop-row.row-index c.row-item.result refl c.loop-row-test.true c.row-item.is)
-          (c.count_below.ensures ∙ ap (λ (ws : List ℕ). count_bits (bits_from (is_in ws) 0 c.args.count)) c.as_slice.ensures.value));
+      len = let e = length_pushed c.loop-row.ranks.items c.count_set.result in let l = c.loop-row.invariant.len in omega (arith, e, l);
+      ranks = λ rays are. ranks_more c.args.count c.loop-row.row-index rays c.loop-row.ranks.items c.count_set.result (c.loop-row.invariant.ranks rays are)
+          (rank_is c.args.count rays c.args.joined.now are c.loop-row.row-index c.row-item.result c.count_set.result (omega arith) (slice_get_read c.args.joined.now _ c.loop-row.row-index c.row-item.result refl c.loop-row-test.true c.row-item.is)
+          (c.count_set.ensures ∙ ap (λ (ws : List ℕ). min (count_bits (bits_from (is_in ws) 0 (64 * length ws))) 65535) c.as_slice.ensures.value));
     })
 
 pub returns-clause-ranks : goal.returns-clause-ranks
