@@ -1,11 +1,12 @@
 -- What is judged to be a sight ray of its pair is a found ray; those that are kept are in order.
-use Rattle.std.proofs.Common.{◌≡◌, ℕ, ◌<◌, inl, inr, List, Option, None, Some, false, length, sym, subst}
+use Rattle.std.proofs.Common.{◌≡◌, ℕ, zero, suc, ◌+◌, ◌*◌, ◌<◌, ◌≤◌, inl, inr, List, [], ◌∷◌, Option, None, Some, Bool, true, false, drop, get_or, length, take, arith, sym, subst}
 use Rattle.std.specs.Option.{is_some}
 use Rattle.std.specs.Prelude.{All, MatchOption}
-use Rattle.std.proofs.lemmas.List.Elements.{All-contains, All-from_recursion}
-use Rattle.std.proofs.lemmas.Option.{slice_get_within}
+use Rattle.std.proofs.lemmas.List.{drop-drop, length-drop, take-append-drop}
+use Rattle.std.proofs.lemmas.List.Elements.{All-append, All-contains, All-from_recursion, All-nil}
+use Rattle.std.proofs.lemmas.Option.{slice_get-get_or, slice_get_within}
 use Rattle.math_base.proofs.Lists.{all_of, contains_pushed}
-use Rattle.sight_names.proofs.Lists.{get_of_contains}
+use Rattle.sight_names.proofs.Lists.{contains_of_get, get_of_contains}
 use Rattle.sight_names.specs.declared.names.PairRay.{PairRay}
 use Rattle.sight_names.specs.declared.names.Triangle.{Triangle}
 use Rattle.sight_names.specs.Map.{map_of}
@@ -17,7 +18,8 @@ use Rattle.mesh_shape.specs.declared.half_edges.table.HalfEdge.{HalfEdge}
 use Rattle.mesh_shape.specs.HalfEdges.HalfEdges.{AreOfGoodMesh}
 use Rattle.cert_checker.specs.Rays.{AreSightRaysBelow}
 use Rattle.exact_job.specs.Ground.{IsGround}
-use Rattle.exact_job.specs.Rays.{AreFoundInOrder, IsAdded, IsFoundRay, RayBefore}
+use Rattle.exact_job.specs.declared.ray_parts.TheConstants.{PART}
+use Rattle.exact_job.specs.Rays.{AreFoundInOrder, ArePartsFound, IsAdded, IsFoundRay, RayBefore}
 use Rattle.exact_job.proofs.Ordering.{ascend_more}
 
 pub of_ground : (p : PlanParts) (ts : List Triangle) (ls : List (Option ℕ)) (xs : List HalfEdge) → IsGround p ts ls xs → AreOfGoodMesh p ts xs
@@ -54,3 +56,26 @@ kept_more p r old new is h (inl (behind, e)) = subst (AreFoundInOrder p) (sym e)
   ascend = ascend_more old r h.ascend behind;
 })
 kept_more p r old new is h (inr (behind, e)) = subst (AreFoundInOrder p) (sym e) h
+
+-- ---- parts
+
+-- where the rays of each part are such, all are
+parts_all : (P : PairRay → Type 0) (n : ℕ) (rays : List PairRay) → length rays ≤ n * PART → ((i : ℕ) → i < n → All P (take PART (drop (i * PART) rays))) → All P rays
+parts_all P zero [] few each = All-nil P
+parts_all P zero (r ∷ rays) few each = absurd (omega (arith, few))
+parts_all P (suc n) rays few each = subst (All P) (take-append-drop PART rays) (All-append P (take PART rays) (drop PART rays) (each 0 (omega arith)) (parts_all P n (drop PART rays) fewer next))
+  where
+    fewer : length (drop PART rays) ≤ n * PART
+    fewer = let l = length-drop PART rays in omega (arith, l, few)
+
+    behind : (i : ℕ) → suc i * PART ≡ PART + i * PART
+    behind i = omega arith
+
+    next : (i : ℕ) → i < n → All P (take PART (drop (i * PART) (drop PART rays)))
+    next i lt = subst (λ (xs : List PairRay). All P (take PART xs)) (sym (drop-drop (i * PART) PART rays)) (subst (λ (k : ℕ). All P (take PART (drop k rays))) (behind i) (each (suc i) (omega (arith, lt))))
+
+pub parts_found : (p : PlanParts) (rays : List PairRay) (found : List Bool) → ArePartsFound p rays found → All (λ (b : Bool). b ≡ true) found → All (IsFoundRay p) rays
+parts_found p rays found h all = parts_all (IsFoundRay p) h.count rays h.enough (λ i lt.
+    let l : i < length found = (let e = h.done.len in omega (arith, lt, e)) in
+    let at = slice_get-get_or found i true l in
+    h.done.each i (get_or found i true) at (All-contains (λ (b : Bool). b ≡ true) found (get_or found i true) all (contains_of_get found (get_or found i true) i at)))

@@ -1,5 +1,5 @@
 -- The rays of a certificate: sight rays between groups, in range and in order.
-use Rattle.std.specs.Prelude.{◌≡◌, ℕ, ◌<◌, ◌⊎◌, ◌++◌, List, [], ◌∷◌, Some, Contains, length, slice_get}
+use Rattle.std.specs.Prelude.{◌≡◌, ℕ, ◌*◌, ◌<◌, ◌≤◌, ◌⊎◌, ◌++◌, List, [], ◌∷◌, Some, All, Bool, true, Contains, drop, length, slice_get, take}
 use Rattle.std.specs.List.{AllByRecursion}
 use Rattle.sight_names.specs.declared.names.PairRay.{PairRay}
 use Rattle.sight_names.specs.Map.{map_of}
@@ -9,6 +9,8 @@ use Rattle.sight_names.specs.Ray.{IsSightRay}
 use Rattle.cert_format.specs.declared.cert.Sizes.{Sizes}
 use Rattle.cert_format.specs.Grammar.{IsRayInRange}
 use Rattle.pair_budget.specs.PairRays.{HasRayFor}
+use Rattle.exact_checker.specs.TaskCrew.Done.{AreDone}
+use Rattle.exact_job.specs.declared.ray_parts.TheConstants.{PART}
 
 -- ---- what walks find
 
@@ -18,6 +20,16 @@ pub record IsFoundRay (p : PlanParts) (r : PairRay) : Type 0 where
   pub first : r.ray.first.line < length p.lines
   pub last : r.ray.last.line < length p.lines
   pub sight : IsSightRay (map_of p) r.ray r.pair.a r.pair.b
+
+-- whether the rays in the part with this number are all such rays; where it is false nothing is said of them
+abbrev pub AreFoundIn : PlanParts → List PairRay → ℕ → Bool → Type 0
+AreFoundIn p rays i found = found ≡ true → All (IsFoundRay p) (take PART (drop (i * PART) rays))
+
+-- what was found of parts that have all the rays
+pub record ArePartsFound (p : PlanParts) (rays : List PairRay) (found : List Bool) : Type 0 where
+  pub count : ℕ
+  pub enough : length rays ≤ count * PART
+  pub done : AreDone (AreFoundIn p rays) count found
 
 -- ---- order
 

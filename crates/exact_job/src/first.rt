@@ -4,11 +4,12 @@
 
 use crate::by_pairs::by_pairs;
 use crate::cells::Cells;
+use crate::floods::{Floods, Part};
 use crate::known::Known;
 use crate::pairs::Pairs;
 use crate::scene::Scene;
 use crate::scout::Searched;
-use crate::seeds::try_lines;
+use crate::seeds::{Seeds, numbers_for};
 use crate::traces::Trace;
 use crate::walk_tasks::{Sought, WantedWalks};
 use crate::walkers::Walkers;
@@ -113,6 +114,42 @@ fn searched<'a, W: Walkers>(
     walkers.walk_wanted(alloc, &walks)
 }
 
+/// Adds a ray for each two groups that lines through gates meet.
+fn sow<W: Walkers>(
+    walkers: &W,
+    alloc: Global,
+    cells: &Cells,
+    gates: &Gates,
+    pairs: &mut Pairs,
+) -> Result<(), Memory>
+    requires can { W.can_walk walkers.now }
+{
+    let numbers = numbers_for(alloc, gates.gates.len())?;
+    let seeds = Seeds {
+        cells,
+        gates: gates.gates.as_slice(),
+        numbers: numbers.as_slice(),
+    };
+    let found = walkers.sow(alloc, &seeds)?;
+    for tracks in found.as_slice() {
+        pairs.join_all(tracks)?;
+    }
+    Ok(())
+}
+
+/// The floods of all gates by what is known, and what of that is new.
+fn flooded<W: Walkers>(
+    walkers: &W,
+    alloc: Global,
+    known: &Known,
+    new: &[u64],
+) -> Result<Vec<Part>, Memory>
+    requires can { W.can_walk walkers.now }
+{
+    let floods = Floods { known, new };
+    walkers.flood(alloc, &floods)
+}
+
 /// Takes in what the searches of a round came to.
 fn take_in(
     known: &Known,
@@ -180,7 +217,9 @@ fn search_rounds<W: Walkers>(
         }
         drop_found(wanted.as_mut_slice(), pairs.new.as_slice());
         let_go(alloc, sought.as_mut_slice(), wanted.as_slice(), known.width);
-        known.add(pairs.new.as_slice())?;
+        known.join(pairs.new.as_slice());
+        let parts = flooded(walkers, alloc, known, pairs.new.as_slice())?;
+        known.take(parts.as_slice());
     }
     Ok(())
 }
@@ -201,9 +240,10 @@ pub fn first_rays<W: Walkers>(
     let cells = Cells::of(alloc, plan, &over.mesh, edges, gates.gates.as_slice())?;
     let mut known = Known::of(alloc, &gates, plan.sectors)?;
     let mut pairs = Pairs::new(alloc, &known)?;
-    try_lines(alloc, &cells, gates.gates.as_slice(), &mut pairs)?;
+    sow(walkers, alloc, &cells, &gates, &mut pairs)?;
     known.join(pairs.new.as_slice());
-    known.begin()?;
+    let parts = flooded(walkers, alloc, &known, pairs.new.as_slice())?;
+    known.take(parts.as_slice());
     let order = known.order(alloc)?;
     let wanted = wanted_rows(alloc, &known, order.as_slice(), classes.as_slice())?;
     let sought = wanting(alloc, order.as_slice(), wanted.as_slice(), known.width)?;

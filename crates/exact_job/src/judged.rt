@@ -9,7 +9,9 @@ ghost use Rattle.exact_job.specs.Ground.{IsGround};
 ghost use Rattle.exact_job.specs.Rays.{AreFoundInOrder, IsFoundRay, RayBefore};
 
 use crate::lines::on_few_lines;
+use crate::ray_parts::RayParts;
 use crate::rays::add;
+use crate::walkers::Walkers;
 use cert_checker::{fault_of_ray, ray_fault};
 use group_checker::GroupedMesh;
 use mesh_shape::half_edges::HalfEdges;
@@ -45,11 +47,40 @@ fn is_sight_ray(over: &GroupedMesh, edges: &HalfEdges, one: &PairRay) -> bool
 }
 
 /// Whether all of these are found to be sight rays, each from the smaller group of its pair to the larger.
-fn are_found(over: &GroupedMesh, edges: &HalfEdges, rays: &[PairRay]) -> bool
+pub fn are_found(over: &GroupedMesh, edges: &HalfEdges, rays: &[PairRay]) -> bool
     requires { IsGround over.now.plan over.now.mesh.triangles over.now.labels edges.now }
     ensures { IsTrue result → All (IsFoundRay over.now.plan) rays.now }
 {
     have_ordered_pairs(rays) && are_sight_rays(over, edges, rays)
+}
+
+/// Whether all of what was found of parts is true.
+fn all_true(found: &[bool]) -> bool
+    ensures { IsTrue result → All (λ b. IsTrue b) found.now }
+{
+    for one in found {
+        if !*one {
+            return false;
+        }
+    }
+    true
+}
+
+/// The same of all these rays, judged in parts.
+fn are_found_by<W: Walkers>(
+    walkers: &W,
+    alloc: Global,
+    over: &GroupedMesh,
+    edges: &HalfEdges,
+    rays: &[PairRay],
+) -> Result<bool, Memory>
+    requires can { W.can_walk walkers.now }
+    requires ground { IsGround over.now.plan over.now.mesh.triangles over.now.labels edges.now }
+    ensures { IfOk result (λ found. IsTrue found → All (IsFoundRay over.now.plan) rays.now) }
+{
+    let parts = RayParts { over, edges, rays };
+    let found = walkers.judge(alloc, &parts)?;
+    Ok(all_true(found.as_slice()))
 }
 
 /// Whether this one is.
@@ -95,20 +126,23 @@ fn those_found(
     Ok(kept)
 }
 
-/// Rays for the pairs of these, on few lines where groups have many, without those that are no sight rays of their pairs. All are
+/// Rays for the pairs of these, on few lines where groups have many, without those that are no sight rays of their pairs. Many are
 /// judged at once, since that is faster; one by one only where one of them is at fault.
-pub fn judged(
+pub fn judged<W: Walkers>(
+    walkers: &W,
     alloc: Global,
     over: &GroupedMesh,
     edges: &HalfEdges,
     rays: Vec<PairRay>,
 ) -> Result<Vec<PairRay>, Memory>
+    requires can { W.can_walk walkers.now }
     requires ground { IsGround over.now.plan over.now.mesh.triangles over.now.labels edges.now }
     requires ascend { Ascends RayBefore rays.items }
     ensures { IfOk result (λ v. AreFoundInOrder over.now.plan v.items) }
 {
     let rays = on_few_lines(alloc, over, edges, rays)?;
-    if are_found(over, edges, rays.as_slice()) {
+    let all = are_found_by(walkers, alloc, over, edges, rays.as_slice())?;
+    if all {
         Ok(rays)
     } else {
         those_found(alloc, over, edges, rays.as_slice())

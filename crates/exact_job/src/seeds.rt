@@ -2,14 +2,18 @@
 
 use crate::cells::Cells;
 use crate::cones::{Line, narrow};
-use crate::pairs::Pairs;
 use crate::tracks::Tracks;
+use crate::words::word_at;
+use exact_checker::task_crew::Tasks;
 use gate_floods::gate_masks::gate::Gate;
 use sight_names::Memory;
 use std::alloc::Global;
 
 /// How many lines are tried through each gate.
 const TRIED: u32 = 2;
+
+/// Through how many gates a task tries lines.
+const GATES: usize = 64;
 
 /// With which number the row of numbers in no order begins.
 const FIRST: u64 = 0x9e37_79b9_7f4a_7c15;
@@ -70,41 +74,71 @@ fn line_through(gate: &Gate, number: u64) -> Line {
     }
 }
 
-/// Tries the line that the number chooses through the gate.
+/// Tries the line that the number chooses through the gate, and notes it where it goes through.
 fn try_line(
     cells: &Cells,
     gates: &[Gate],
     gate: usize,
     number: u64,
     tracks: &mut Tracks,
-    pairs: &mut Pairs,
 ) -> Result<(), Memory> {
     let Some(one) = gates.get(gate) else {
         return Ok(());
     };
     let line = line_through(one, number);
     if line.level(one.left_at) > 0 && line.level(one.right_at) < 0 {
-        tracks.clear();
         tracks.follow(cells, gates, gate, line)?;
-        pairs.join_all(tracks)?;
     }
     Ok(())
 }
 
-/// Finds pairs along a few lines through each gate.
-pub fn try_lines(
-    alloc: Global,
-    cells: &Cells,
-    gates: &[Gate],
-    pairs: &mut Pairs,
-) -> Result<(), Memory> {
-    let mut tracks = Tracks::new(alloc);
+/// The number with which the row of numbers goes on at the first gate of each task, for so many gates.
+pub fn numbers_for(alloc: Global, gates: usize) -> Result<Vec<u64>, Memory> {
+    let mut numbers = Vec::new(alloc);
     let mut number = FIRST;
-    for gate in 0..gates.len() {
+    for gate in 0..gates {
+        if gate % GATES == 0 {
+            numbers.push(number)?;
+        }
         for _ in 0..TRIED {
             number = next_number(number);
-            try_line(cells, gates, gate, number, &mut tracks, pairs)?;
         }
     }
-    Ok(())
+    Ok(numbers)
+}
+
+/// Lines through all gates, as tasks, and the numbers that they begin with.
+#[derive(Drop)]
+pub struct Seeds<'a> {
+    pub cells: &'a Cells,
+    pub gates: &'a [Gate],
+    pub numbers: &'a [u64],
+}
+
+impl<'a> Tasks for Seeds<'a> {
+    type Tools = Tracks;
+
+    type Done = Tracks;
+
+    ghost can_do = { λ w i. Unit {0} };
+
+    ghost is_done = { λ w i made. Unit {0} };
+
+    fn tools(&self, alloc: Global) -> Tracks {
+        Tracks::new(alloc)
+    }
+
+    fn work(&self, alloc: Global, tracks: &mut Tracks, number: usize) -> Result<Tracks, Memory> {
+        let mut chosen = word_at(self.numbers, number);
+        let from = number.saturating_mul(GATES).min(self.gates.len());
+        let to = from.saturating_add(GATES).min(self.gates.len());
+        tracks.clear();
+        for gate in from..to {
+            for _ in 0..TRIED {
+                chosen = next_number(chosen);
+                try_line(self.cells, self.gates, gate, chosen, tracks)?;
+            }
+        }
+        tracks.copy(alloc)
+    }
 }

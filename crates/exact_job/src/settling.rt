@@ -157,7 +157,7 @@ fn first_round<W: Walkers>(
 {
     let found = first_rays(walkers, alloc, over, edges)?;
     let each = in_order(alloc, found)?;
-    let rays = judged(alloc, over, edges, each)?;
+    let rays = judged(walkers, alloc, over, edges, each)?;
     round_of(walkers, alloc, over, edges, rays)
 }
 

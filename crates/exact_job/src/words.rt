@@ -61,6 +61,14 @@ pub fn join_at(words: &mut [u64], at: usize, other: &[u64]) {
     }
 }
 
+/// Puts the other words in place of those from this place on.
+pub fn put_words(words: &mut [u64], at: usize, other: &[u64]) {
+    if at > words.len() || words.len() - at < other.len() {
+        return;
+    }
+    words[at..at + other.len()].copy_from_slice(other);
+}
+
 /// Puts what both rows have in place of these words.
 #[inline(always)]
 pub fn put_both(words: &mut [u64], one: &[u64], other: &[u64]) {

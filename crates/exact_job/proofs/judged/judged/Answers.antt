@@ -6,8 +6,8 @@ use Rattle.exact_job.proofs.FewLines.{moved_ascend}
 use Rattle.exact_job.proofs.Judging.{in_order}
 use Rattle.exact_job.proofs.judged.judged.Goals as goal
 
-pub returns-then-are_found : goal.returns-then-are_found
-returns-then-are_found c =
+pub returns-then-all : goal.returns-then-all
+returns-then-all g c =
     let p = c.args.over.now.plan in
-    let found = subst (λ (rs : List PairRay). All (IsFoundRay p) rs) c.as_slice.ensures.value (c.are_found.ensures c.if-are_found.true) in
+    let found = subst (λ (rs : List PairRay). All (IsFoundRay p) rs) c.as_slice.ensures.value (c.in_ok-all.ensures c.if-all.true) in
     in_order p c.in_ok-rays.rays.items found (moved_ascend c.args.rays.items c.in_ok-rays.rays.items c.requires.ascend c.in_ok-rays.ensures)
