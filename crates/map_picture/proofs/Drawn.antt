@@ -14,7 +14,7 @@ use Rattle.map_picture.specs.declared.sheet.Subject.TheVariants as subject
 use Rattle.map_picture.specs.Frame.{frame_of, sizes_of}
 use Rattle.map_picture.specs.Bytes.{bytes_of, face_id, face_text, face_title, legend_text, path_text, spelled, svg_of, tint_class, triangles_text}
 use Rattle.map_picture.specs.declared.sheet.Subject.{Subject}
-use Rattle.map_picture.specs.Picture.{Element, Face, Legend, Foot, faces_from, heat_tints, labelled_with, line_elements, most_of, picture_of, sheet_of}
+use Rattle.map_picture.specs.Picture.{NamedParts, Element, Face, Legend, Foot, faces_from, heat_tints, labelled_with, line_elements, most_of, picture_of, sheet_of}
 use Rattle.map_picture.proofs.Pushes.{joined}
 
 -- ---- the faces
@@ -39,7 +39,7 @@ faces_more ts ls g tints groups t names in_tints in_groups is_tint is_names =
 one_more : (f : Frame) (m : Map) (es fs : List Element) (x y : List ℕ) → x ≡ spelled f m es → y ≡ x ++ spelled f m fs → y ≡ spelled f m (es ++ fs)
 one_more f m es fs x y before pushed = pushed ∙ ap (λ (l : List ℕ). l ++ spelled f m fs) before ∙ sym (flat_map-append (bytes_of f m) es fs)
 
-pub drawn : (f : Frame) (name : List ℕ) (about : Subject) (m : Map) (under over : List Element) (none a b c d e : List ℕ) → none ≡ [] → a ≡ none ++ spelled f m (sheet_of name about) → b ≡ a ++ spelled f m under
+pub drawn : (f : Frame) (name : NamedParts) (about : Subject) (m : Map) (under over : List Element) (none a b c d e : List ℕ) → none ≡ [] → a ≡ none ++ spelled f m (sheet_of name about) → b ≡ a ++ spelled f m under
     → c ≡ b ++ spelled f m (line_elements m) → d ≡ c ++ spelled f m over → e ≡ d ++ spelled f m (Foot ∷ []) → e ≡ spelled f m (picture_of name about m under over)
 drawn f name about m under over none a b c d e empty sheet first lines second foot =
     let sheet' = one_more f m [] (sheet_of name about) none a empty sheet in
@@ -49,10 +49,10 @@ drawn f name about m under over none a b c d e empty sheet first lines second fo
     one_more f m (sheet_of name about ++ under ++ line_elements m ++ over) (Foot ∷ []) d e second' foot
 
 -- .. in two parts: as far as what lies under the lines, and from there
-pub begun : (f : Frame) (name : List ℕ) (about : Subject) (m : Map) (under : List Element) (none a b : List ℕ) → none ≡ [] → a ≡ none ++ spelled f m (sheet_of name about) → b ≡ a ++ spelled f m under → b ≡ spelled f m (sheet_of name about ++ under)
+pub begun : (f : Frame) (name : NamedParts) (about : Subject) (m : Map) (under : List Element) (none a b : List ℕ) → none ≡ [] → a ≡ none ++ spelled f m (sheet_of name about) → b ≡ a ++ spelled f m under → b ≡ spelled f m (sheet_of name about ++ under)
 begun f name about m under none a b empty sheet first = one_more f m (sheet_of name about) under a b (one_more f m [] (sheet_of name about) none a empty sheet) first
 
-pub drawn_on : (f : Frame) (name : List ℕ) (about : Subject) (m : Map) (under over : List Element) (b c d e : List ℕ) → b ≡ spelled f m (sheet_of name about ++ under)
+pub drawn_on : (f : Frame) (name : NamedParts) (about : Subject) (m : Map) (under over : List Element) (b c d e : List ℕ) → b ≡ spelled f m (sheet_of name about ++ under)
     → c ≡ b ++ spelled f m (line_elements m) → d ≡ c ++ spelled f m over → e ≡ d ++ spelled f m (Foot ∷ []) → e ≡ spelled f m (picture_of name about m under over)
 drawn_on f name about m under over b c d e ground lines second foot =
     let lines' = one_more f m (sheet_of name about ++ under) (line_elements m) b c ground lines in
@@ -64,12 +64,12 @@ pub two_over : (f : Frame) (m : Map) (es fs : List Element) (a b c : List ℕ) �
 two_over f m es fs a b c first second = joined a b c (spelled f m es) (spelled f m fs) first second ∙ ap (λ (l : List ℕ). a ++ l) (sym (flat_map-append (bytes_of f m) es fs))
 
 -- with the tints that were made
-pub tinted : (f : Frame) (m : Map) (name : List ℕ) (about : Subject) (ts : List Triangle) (ls : List (Option ℕ)) (groups : List (List ℕ)) (tints made : List Tint) (b : List ℕ) → made ≡ tints
+pub tinted : (f : Frame) (m : Map) (name : NamedParts) (about : Subject) (ts : List Triangle) (ls : List (Option ℕ)) (groups : List (List ℕ)) (tints made : List Tint) (b : List ℕ) → made ≡ tints
     → b ≡ spelled f m (sheet_of name about ++ faces_from ts ls 0 made groups) → b ≡ spelled f m (sheet_of name about ++ faces_from ts ls 0 tints groups)
 tinted f m name about ts ls groups tints made b same is = is ∙ ap (λ (xs : List Tint). spelled f m (sheet_of name about ++ faces_from ts ls 0 xs groups)) same
 
 -- .. by counts
-pub heated : (f : Frame) (m : Map) (name : List ℕ) (ts : List Triangle) (ls : List (Option ℕ)) (groups : List (List ℕ)) (counts : List ℕ) (most : ℕ) (made : List Tint) (b : List ℕ) → most ≡ most_of counts → made ≡ heat_tints counts most
+pub heated : (f : Frame) (m : Map) (name : NamedParts) (ts : List Triangle) (ls : List (Option ℕ)) (groups : List (List ℕ)) (counts : List ℕ) (most : ℕ) (made : List Tint) (b : List ℕ) → most ≡ most_of counts → made ≡ heat_tints counts most
     → b ≡ spelled f m (sheet_of name subject.Heat ++ faces_from ts ls 0 made groups) → b ≡ spelled f m (sheet_of name subject.Heat ++ faces_from ts ls 0 (heat_tints counts (most_of counts)) groups)
 heated f m name ts ls groups counts most made b is_most same is = tinted f m name subject.Heat ts ls groups (heat_tints counts (most_of counts)) made b (same ∙ ap (λ (k : ℕ). heat_tints counts k) is_most) is
 
@@ -86,7 +86,7 @@ pub alone : (f : Frame) (m : Map) (x : Element) (a b : List ℕ) → b ≡ a ++ 
 alone f m x a b made = made ∙ ap (λ (l : List ℕ). a ++ l) (sym (append-nil (bytes_of f m x)))
 
 -- .. behind the faces
-pub entered_on : (f : Frame) (name : List ℕ) (about : Subject) (m : Map) (faces : List Element) (x : Element) (a b : List ℕ) → a ≡ spelled f m (sheet_of name about ++ faces) → b ≡ a ++ bytes_of f m x → b ≡ spelled f m (sheet_of name about ++ (faces ++ x ∷ []))
+pub entered_on : (f : Frame) (name : NamedParts) (about : Subject) (m : Map) (faces : List Element) (x : Element) (a b : List ℕ) → a ≡ spelled f m (sheet_of name about ++ faces) → b ≡ a ++ bytes_of f m x → b ≡ spelled f m (sheet_of name about ++ (faces ++ x ∷ []))
 entered_on f name about m faces x a b ground made = one_more f m (sheet_of name about ++ faces) (x ∷ []) a b ground (alone f m x a b made)
 
 -- in the frame of the map

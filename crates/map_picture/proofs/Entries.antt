@@ -8,7 +8,7 @@ use Rattle.sight_names.specs.Mesh.{IsAbove}
 use Rattle.sight_names.specs.Order.{Ascends}
 use Rattle.map_picture.specs.declared.pair.Stop.{Stop}
 use Rattle.map_picture.specs.declared.sheet.Subject.TheVariants as subject
-use Rattle.map_picture.specs.Picture.{Entered, Stops, blind_picture, numbered, pair_faces, pair_rings, pair_tint}
+use Rattle.map_picture.specs.Picture.{NamedParts, Entered, Stops, blind_picture, numbered, pair_faces, pair_rings, pair_tint}
 use Rattle.map_picture.specs.Laws.{ShowsEntered, ShowsStops}
 use Rattle.map_picture.proofs.Pieces.{has_behind, has_over, has_under}
 use Rattle.map_picture.proofs.Extras.{blind_words, rings_words}
@@ -54,7 +54,7 @@ module _ (ts : List Triangle) where
       let k = placed_at es h j y there in
       above n.0 k.0 x y (up i j n.0 k.0 lt n.1 k.1) n.2 k.2
 
-pub entered_shown : (name : List ℕ) (m : Map) (groups : List (List ℕ)) (ts : List Triangle) (labels : List (Option ℕ)) (a b sector : ℕ) (entered : List ℕ) (stops : List Stop) → All (λ k. k < length ts) entered → ShowsEntered ts sector entered (blind_picture name m groups ts labels a b sector entered stops)
+pub entered_shown : (name : NamedParts) (m : Map) (groups : List (List ℕ)) (ts : List Triangle) (labels : List (Option ℕ)) (a b sector : ℕ) (entered : List ℕ) (stops : List Stop) → All (λ k. k < length ts) entered → ShowsEntered ts sector entered (blind_picture name m groups ts labels a b sector entered stops)
 entered_shown name m groups ts labels a b sector entered stops within =
     let h = there ts entered within in
     let faces = pair_faces groups ts labels a b in
@@ -66,7 +66,7 @@ entered_shown name m groups ts labels a b sector entered stops within =
       order = in_order ts entered h;
     }
 
-pub stops_shown : (name : List ℕ) (m : Map) (groups : List (List ℕ)) (ts : List Triangle) (labels : List (Option ℕ)) (a b sector : ℕ) (entered : List ℕ) (stops : List Stop) → ShowsStops stops (blind_picture name m groups ts labels a b sector entered stops)
+pub stops_shown : (name : NamedParts) (m : Map) (groups : List (List ℕ)) (ts : List Triangle) (labels : List (Option ℕ)) (a b sector : ℕ) (entered : List ℕ) (stops : List Stop) → ShowsStops stops (blind_picture name m groups ts labels a b sector entered stops)
 stops_shown name m groups ts labels a b sector entered stops =
     let faces = pair_faces groups ts labels a b in
     record {

@@ -14,7 +14,7 @@ use Rattle.map_picture.specs.declared.tint.Tint.{Tint}
 use Rattle.map_picture.specs.Bytes.{count_text, face_id, id_of, line_id}
 use Rattle.map_picture.specs.declared.rings.Letter.{Letter}
 use Rattle.map_picture.specs.declared.sheet.Subject.{Subject}
-use Rattle.map_picture.specs.Picture.{Element, Entered, Legend, Stops, Sight, arrows_from, faces_from, faults_from, pair_rings, picture_of, ring_of, sight_between, sight_elements}
+use Rattle.map_picture.specs.Picture.{NamedParts, Element, Entered, Legend, Stops, Sight, arrows_from, faces_from, faults_from, pair_rings, picture_of, ring_of, sight_between, sight_elements}
 use Rattle.map_picture.proofs.Pieces.{AtMostOne, NotSo, all_arrows, all_faults, all_ring, all_rings, once_alone, once_before, once_behind, once_none, once_over, once_under}
 
 abbrev pub HasId : List ℕ → Element → Type 0
@@ -72,11 +72,11 @@ module _ (w : List ℕ) (word : IsWord w) where
   none_in_faces ts labels g (t ∷ tints) [] = tt
   none_in_faces ts labels g (t ∷ tints) (names ∷ groups) = (no_face_id w g word, none_in_faces ts labels (g + 1) tints groups)
 
-  pub word_under : (name : List ℕ) (about : Subject) (m : Map) (under over : List Element) → AtMostOne (HasId w) under → AllByRecursion (NotSo (HasId w)) over → AtMostOne (HasId w) (picture_of name about m under over)
-  word_under name about m under over once none = once_under (HasId w) name about m (no_empty w word) (λ n s. no_empty w word) (no_empty w word) (no_empty w word) (no_empty w word) (no_empty w word) (λ i l. no_line_id w i word) under over once none
+  pub word_under : (name : NamedParts) (about : Subject) (m : Map) (under over : List Element) → AtMostOne (HasId w) under → AllByRecursion (NotSo (HasId w)) over → AtMostOne (HasId w) (picture_of name about m under over)
+  word_under name about m under over once none = once_under (HasId w) name about m (no_empty w word) (λ n s. no_empty w word) (no_empty w word) (no_empty w word) (λ n. no_empty w word) (no_empty w word) (λ i l. no_line_id w i word) under over once none
 
-  pub word_over : (name : List ℕ) (about : Subject) (m : Map) (under over : List Element) → AllByRecursion (NotSo (HasId w)) under → AtMostOne (HasId w) over → AtMostOne (HasId w) (picture_of name about m under over)
-  word_over name about m under over none once = once_over (HasId w) name about m (no_empty w word) (λ n s. no_empty w word) (no_empty w word) (no_empty w word) (no_empty w word) (no_empty w word) (λ i l. no_line_id w i word) under over none once
+  pub word_over : (name : NamedParts) (about : Subject) (m : Map) (under over : List Element) → AllByRecursion (NotSo (HasId w)) under → AtMostOne (HasId w) over → AtMostOne (HasId w) (picture_of name about m under over)
+  word_over name about m under over none once = once_over (HasId w) name about m (no_empty w word) (λ n s. no_empty w word) (no_empty w word) (no_empty w word) (λ n. no_empty w word) (no_empty w word) (λ i l. no_line_id w i word) under over none once
 
 -- each of the four words is the id of at most one element
 pub record WordsAreOnce (picture : List Element) : Type 0 where
@@ -98,15 +98,15 @@ rings_words m groups ts labels a b w word = all_rings (NotSo (HasId w)) (λ l s 
 pub legend_words : (most : ℕ) → HasNoWord (Legend most ∷ [])
 legend_words most w word = (no_empty w word, tt)
 
-pub faults_words : (faults : List FaultAt) (arrows : List Arrow) → HasNoWord (faults_from faults ++ arrows_from arrows)
-faults_words faults arrows w word =
-    all_join (NotSo (HasId w)) (faults_from faults) (arrows_from arrows) (all_faults (NotSo (HasId w)) (λ what c. no_empty w word) faults) (all_arrows (NotSo (HasId w)) (λ a. no_empty w word) arrows)
+pub faults_words : (places : ℕ) (faults : List FaultAt) (arrows : List Arrow) → HasNoWord (faults_from places faults ++ arrows_from places arrows)
+faults_words places faults arrows w word =
+    all_join (NotSo (HasId w)) (faults_from places faults) (arrows_from places arrows) (all_faults (NotSo (HasId w)) places (λ what c. no_empty w word) faults) (all_arrows (NotSo (HasId w)) places (λ a. no_empty w word) arrows)
 
 pub no_words : HasNoWord []
 no_words w word = tt
 
 -- a picture with one element over the lines, before what has no word
-module _ (name : List ℕ) (about : Subject) (m : Map) (x : Element) (rest : List Element) (none : HasNoWord rest) where
+module _ (name : NamedParts) (about : Subject) (m : Map) (x : Element) (rest : List Element) (none : HasNoWord rest) where
   one_word : (w : List ℕ) → IsWord w → AtMostOne (HasId w) (picture_of name about m [] (x ∷ rest))
   one_word w word = word_over w word name about m [] (x ∷ rest) tt (once_before (HasId w) (x ∷ []) rest (once_alone (HasId w) x) (none w word))
 
@@ -127,7 +127,7 @@ ray_alone w r (Some first) None = none_of_one w
 ray_alone w r (Some first) (Some last) = once_alone (HasId w) (Sight r first last)
 
 -- pictures with faces, and with further elements that have no word over the lines
-module _ (name : List ℕ) (about : Subject) (m : Map) (ts : List Triangle) (labels : List (Option ℕ)) (tints : List Tint) (groups : List (List ℕ)) (rest : List Element) (none : HasNoWord rest) where
+module _ (name : NamedParts) (about : Subject) (m : Map) (ts : List Triangle) (labels : List (Option ℕ)) (tints : List Tint) (groups : List (List ℕ)) (rest : List Element) (none : HasNoWord rest) where
   abbrev faces : List Element
   faces = faces_from ts labels 0 tints groups
 

@@ -19,7 +19,7 @@ use Rattle.map_picture.specs.declared.rings.Letter.{Letter}
 use Rattle.map_picture.specs.declared.rings.Letter.TheVariants as letter
 use Rattle.map_picture.specs.declared.sheet.Subject.{Subject}
 use Rattle.map_picture.specs.declared.sheet.Subject.TheVariants as subject
-use Rattle.map_picture.specs.Picture.{Element, Head, Title, Style, Paper, Scale, Face, Line, Entered, Stops, Ring, Legend, Foot, blind_picture, faces_from, has_label, heat_picture, heat_tints, labelled_with, most_of, numbered, pair_picture, pair_rings, pair_tint, picture_of, plan_picture, ring_of, row_picture, row_tint, sight_between, sight_elements, sight_picture}
+use Rattle.map_picture.specs.Picture.{NamedParts, Element, Head, Title, Style, Paper, Scale, Face, Line, Entered, Stops, Ring, Legend, Foot, blind_picture, faces_from, has_label, heat_picture, heat_tints, labelled_with, most_of, numbered, pair_picture, pair_rings, pair_tint, picture_of, plan_picture, ring_of, row_picture, row_tint, sight_between, sight_elements, sight_picture}
 use Rattle.map_picture.specs.Laws.{Has, HasNoLine, ShowsFaces, TellsHeat, TellsNothing, TellsPair, TellsRow}
 use Rattle.map_picture.proofs.Pieces.{NotSo, all_ring, all_rings, at_under, has_under, in_front, still_there}
 
@@ -46,8 +46,8 @@ head_is_none k g names shown e = cc
 title_is_none : (name : List ℕ) (about : Subject) → NoFace (Title name about)
 title_is_none name about k g names shown e = cc
 
-scale_is_none : NoFace Scale
-scale_is_none k g names shown e = cc
+scale_is_none : (places : ℕ) → NoFace (Scale places)
+scale_is_none places k g names shown e = cc
 
 style_is_none : NoFace Style
 style_is_none k g names shown e = cc
@@ -70,9 +70,9 @@ not_faces : (es : List Element) → AllByRecursion NoFace es → AllByRecursion 
 not_faces es h = all_so NoFace (NotSo IsFace) es not_face h
 
 -- the place of a face is five behind its place among what lies under the lines
-pub at_place : (name : List ℕ) (about : Subject) (m : Map) (under over : List Element) → AllByRecursion NoFace over → (p : ℕ) (k : Tint) (g : ℕ) (names : List ℕ) (shown : List Triangle) → slice_get (picture_of name about m under over) p ≡ Some (Face k g names shown) → (q : ℕ) × (p ≡ 5 + q) × (slice_get under q ≡ Some (Face k g names shown))
+pub at_place : (name : NamedParts) (about : Subject) (m : Map) (under over : List Element) → AllByRecursion NoFace over → (p : ℕ) (k : Tint) (g : ℕ) (names : List ℕ) (shown : List Triangle) → slice_get (picture_of name about m under over) p ≡ Some (Face k g names shown) → (q : ℕ) × (p ≡ 5 + q) × (slice_get under q ≡ Some (Face k g names shown))
 at_place name about m under over none p k g names shown at =
-    at_under IsFace name about m (not_face Head head_is_none) (λ n s. not_face (Title n s) (title_is_none n s)) (not_face Style style_is_none) (not_face Paper paper_is_none) (not_face Scale scale_is_none) (not_face Foot foot_is_none) (λ i l. not_face (Line i l) (line_is_none i l))
+    at_under IsFace name about m (not_face Head head_is_none) (λ n s. not_face (Title n s) (title_is_none n s)) (not_face Style style_is_none) (not_face Paper paper_is_none) (λ n. not_face (Scale n) (scale_is_none n)) (not_face Foot foot_is_none) (λ i l. not_face (Line i l) (line_is_none i l))
     under over (not_faces over none) p (Face k g names shown) (k, g, names, shown, refl) at
 
 -- ---- which faces there are
@@ -224,7 +224,7 @@ told_pair a b names = go (list_any (λ s. s == a) names) refl
 
 -- ---- the whole
 
-module _ (name : List ℕ) (about : Subject) (m : Map) (groups : List (List ℕ)) (ts : List Triangle) (labels : List (Option ℕ)) (Tells : List ℕ → Tint → Type 0) (f : List ℕ → Tint) (tells : (names : List ℕ) → Tells names (f names))
+module _ (name : NamedParts) (about : Subject) (m : Map) (groups : List (List ℕ)) (ts : List Triangle) (labels : List (Option ℕ)) (Tells : List ℕ → Tint → Type 0) (f : List ℕ → Tint) (tells : (names : List ℕ) → Tells names (f names))
     (more over : List Element) (no_more : AllByRecursion NoFace more) (no_over : AllByRecursion NoFace over) where
   abbrev faces : List Element
   faces = faces_from ts labels 0 (map f groups) groups
@@ -265,7 +265,7 @@ module _ (name : List ℕ) (about : Subject) (m : Map) (groups : List (List ℕ)
   faces_shown : ShowsFaces groups ts labels Tells whole
   faces_shown = record { each = each; group = group; told = told_by; triangles = triangles; order = order; once = once }
 
-module _ (name : List ℕ) (about : Subject) (m : Map) (groups : List (List ℕ)) (ts : List Triangle) (labels : List (Option ℕ)) (Tells : List ℕ → Tint → Type 0) (f : List ℕ → Tint) (tells : (names : List ℕ) → Tells names (f names))
+module _ (name : NamedParts) (about : Subject) (m : Map) (groups : List (List ℕ)) (ts : List Triangle) (labels : List (Option ℕ)) (Tells : List ℕ → Tint → Type 0) (f : List ℕ → Tint) (tells : (names : List ℕ) → Tells names (f names))
     (over : List Element) (no_over : AllByRecursion NoFace over) where
   faces_alone : ShowsFaces groups ts labels Tells (picture_of name about m (faces_from ts labels 0 (map f groups) groups) over)
   faces_alone =
@@ -286,7 +286,7 @@ no_ring which sector t k g names shown e = cc
 no_legend : (most : ℕ) → NoFace (Legend most)
 no_legend most k g names shown e = cc
 
-module _ (name : List ℕ) (m : Map) (groups : List (List ℕ)) (ts : List Triangle) (labels : List (Option ℕ)) where
+module _ (name : NamedParts) (m : Map) (groups : List (List ℕ)) (ts : List Triangle) (labels : List (Option ℕ)) where
   pub plan_shown : ShowsFaces groups ts labels TellsNothing (plan_picture name m groups ts labels)
   plan_shown = faces_alone name subject.Plan m groups ts labels TellsNothing (λ names. tint.Other) (λ names. refl) [] tt
 

@@ -20,7 +20,7 @@ use Rattle.map_picture.specs.declared.rings.Letter.{Letter}
 use Rattle.map_picture.specs.declared.rings.Letter.TheVariants as letter
 use Rattle.map_picture.specs.declared.sheet.Subject.TheVariants as subject
 use Rattle.map_picture.specs.declared.tint.Tint.TheVariants as tint
-use Rattle.map_picture.specs.Picture.{Element, Head, Title, Style, Paper, Scale, Face, Line, Entered, Stops, Sight, Marked, Fault, Out, Ring, Legend, Foot, arrows_from, blind_picture, faces_from, faults_from, heat_picture, heat_tints, marked_picture, most_of, numbered, pair_faces, pair_picture, pair_rings, pair_tint, plan_faces, plan_picture, ring_of, row_picture, row_tint, sight_between, sight_elements, sight_picture}
+use Rattle.map_picture.specs.Picture.{NamedParts, Element, Head, Title, Style, Paper, Scale, Face, Line, Entered, Stops, Sight, Marked, Fault, Out, Ring, Legend, Foot, arrows_from, blind_picture, faces_from, faults_from, heat_picture, heat_tints, marked_picture, most_of, numbered, pair_faces, pair_picture, pair_rings, pair_tint, plan_faces, plan_picture, ring_of, row_picture, row_tint, sight_between, sight_elements, sight_picture}
 use Rattle.map_picture.specs.Laws.{Has, HasNoLine, IdsAreOnce, ShowsFaces, ShowsLines, TellsHeat, TellsNothing, TellsPair, TellsRow}
 use Rattle.map_picture.proofs.Ordered.{NoLine, lines_shown, no_lines}
 use Rattle.map_picture.proofs.Pieces.{AtMostOne, all_arrows, all_faults, all_ring, all_rings}
@@ -70,9 +70,9 @@ with_id picture words (Entered sector us) h = inr (inr (record { w = codes "open
 with_id picture words (Stops ss) h = inr (inr (record { w = codes "stops"; is = refl; once = words.stops_once }))
 with_id picture words (Sight r first last) h = inr (inr (record { w = codes "ray"; is = refl; once = words.ray_once }))
 with_id picture words (Marked marks) h = inr (inr (record { w = codes "fault"; is = refl; once = words.fault_once }))
-with_id picture words Scale h = absurd (h refl)
-with_id picture words (Fault what c) h = absurd (h refl)
-with_id picture words (Out w) h = absurd (h refl)
+with_id picture words (Scale places) h = absurd (h refl)
+with_id picture words (Fault places what c) h = absurd (h refl)
+with_id picture words (Out places w) h = absurd (h refl)
 with_id picture words (Ring which sector t) h = absurd (h refl)
 with_id picture words (Legend most) h = absurd (h refl)
 with_id picture words Foot h = absurd (h refl)
@@ -129,11 +129,11 @@ faces_once groups ts labels Tells picture some shows = record {
 no_ring : (which : Letter) (sector : ℕ) (t : Triangle) → NoLine (Ring which sector t)
 no_ring which sector t i l e = cc
 
-no_fault : (what : PointFault) (c : Pt) → NoLine (Fault what c)
-no_fault what c i l e = cc
+no_fault : (places : ℕ) (what : PointFault) (c : Pt) → NoLine (Fault places what c)
+no_fault places what c i l e = cc
 
-no_out : (w : Arrow) → NoLine (Out w)
-no_out w i l e = cc
+no_out : (places : ℕ) (w : Arrow) → NoLine (Out places w)
+no_out places w i l e = cc
 
 no_legend : (most : ℕ) → NoLine (Legend most)
 no_legend most i l e = cc
@@ -162,9 +162,9 @@ no_line_joined (e ∷ es) fs h g i l (suc k, at) = no_line_joined es fs (λ n o 
 pub no_line : HasNoLine []
 no_line = no_lines [] tt
 
-pub no_line_marked : (marks : List ℕ) (faults : List FaultAt) (arrows : List Arrow) → HasNoLine (Marked marks ∷ faults_from faults ++ arrows_from arrows)
-no_line_marked marks faults arrows =
-    no_lines (Marked marks ∷ faults_from faults ++ arrows_from arrows) (all_join NoLine (Marked marks ∷ faults_from faults) (arrows_from arrows) (no_mark marks, all_faults NoLine no_fault faults) (all_arrows NoLine no_out arrows))
+pub no_line_marked : (places : ℕ) (marks : List ℕ) (faults : List FaultAt) (arrows : List Arrow) → HasNoLine (Marked marks ∷ faults_from places faults ++ arrows_from places arrows)
+no_line_marked places marks faults arrows =
+    no_lines (Marked marks ∷ faults_from places faults ++ arrows_from places arrows) (all_join NoLine (Marked marks ∷ faults_from places faults) (arrows_from places arrows) (no_mark marks, all_faults NoLine places (no_fault places) faults) (all_arrows NoLine places (no_out places) arrows))
 
 pub no_line_legend : (most : ℕ) → HasNoLine (Legend most ∷ [])
 no_line_legend most = no_lines (Legend most ∷ []) (no_legend most, tt)
@@ -192,21 +192,21 @@ no_line_heat groups ts labels count =
 
 -- ---- ids
 
-no_face_marked : (marks : List ℕ) (faults : List FaultAt) (arrows : List Arrow) → AllByRecursion NoFace (Marked marks ∷ faults_from faults ++ arrows_from arrows)
-no_face_marked marks faults arrows =
-    all_join NoFace (Marked marks ∷ faults_from faults) (arrows_from arrows) ((λ k g names shown e. cc), all_faults NoFace (λ what c k g names shown e. cc) faults) (all_arrows NoFace (λ w k g names shown e. cc) arrows)
+no_face_marked : (places : ℕ) (marks : List ℕ) (faults : List FaultAt) (arrows : List Arrow) → AllByRecursion NoFace (Marked marks ∷ faults_from places faults ++ arrows_from places arrows)
+no_face_marked places marks faults arrows =
+    all_join NoFace (Marked marks ∷ faults_from places faults) (arrows_from places arrows) ((λ k g names shown e. cc), all_faults NoFace places (λ what c k g names shown e. cc) faults) (all_arrows NoFace places (λ w k g names shown e. cc) arrows)
 
-pub marked_ids : (name : List ℕ) (m : Map) (left_out : ℕ) (marks : List ℕ) (faults : List FaultAt) (arrows : List Arrow) → length m.lines ≤ 2 ^ 64 → IdsAreOnce (marked_picture name m left_out marks faults arrows)
+pub marked_ids : (name : NamedParts) (m : Map) (left_out : ℕ) (marks : List ℕ) (faults : List FaultAt) (arrows : List Arrow) → length m.lines ≤ 2 ^ 64 → IdsAreOnce (marked_picture name m left_out marks faults arrows)
 marked_ids name m left_out marks faults arrows few =
-    let over = Marked marks ∷ faults_from faults ++ arrows_from arrows in
-    ids_once m (marked_picture name m left_out marks faults arrows) (lines_shown name (subject.Faults left_out) m [] over no_line (no_line_marked marks faults arrows)) few
+    let over = Marked marks ∷ faults_from name.places faults ++ arrows_from name.places arrows in
+    ids_once m (marked_picture name m left_out marks faults arrows) (lines_shown name (subject.Faults left_out) m [] over no_line (no_line_marked name.places marks faults arrows)) few
     (record {
-      few = λ k g names shown h. absurd (none-some (Face k g names shown) (at_place name (subject.Faults left_out) m [] over (no_face_marked marks faults arrows) h.0 k g names shown h.1).2);
-      once = λ i j g k p names others shown more at there. absurd (none-some (Face k g names shown) (at_place name (subject.Faults left_out) m [] over (no_face_marked marks faults arrows) i k g names shown at).2);
+      few = λ k g names shown h. absurd (none-some (Face k g names shown) (at_place name (subject.Faults left_out) m [] over (no_face_marked name.places marks faults arrows) h.0 k g names shown h.1).2);
+      once = λ i j g k p names others shown more at there. absurd (none-some (Face k g names shown) (at_place name (subject.Faults left_out) m [] over (no_face_marked name.places marks faults arrows) i k g names shown at).2);
     })
-    (one_over name (subject.Faults left_out) m (Marked marks) (faults_from faults ++ arrows_from arrows) (faults_words faults arrows))
+    (one_over name (subject.Faults left_out) m (Marked marks) (faults_from name.places faults ++ arrows_from name.places arrows) (faults_words name.places faults arrows))
 
-module _ (name : List ℕ) (m : Map) (groups : List (List ℕ)) (ts : List Triangle) (labels : List (Option ℕ)) where
+module _ (name : NamedParts) (m : Map) (groups : List (List ℕ)) (ts : List Triangle) (labels : List (Option ℕ)) where
   pub plan_ids : length m.lines ≤ 2 ^ 64 → length groups ≤ 2 ^ 64 → IdsAreOnce (plan_picture name m groups ts labels)
   plan_ids few some =
       ids_once m (plan_picture name m groups ts labels) (lines_shown name subject.Plan m (plan_faces groups ts labels) [] (no_line_in_faces (λ names. tint.Other) ts labels 0 groups) no_line) few

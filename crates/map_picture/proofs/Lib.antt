@@ -15,3 +15,4 @@ pub mod Sights
 pub mod Marking
 pub mod Ringed
 pub mod Ranges
+pub mod Scales

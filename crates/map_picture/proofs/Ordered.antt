@@ -7,7 +7,7 @@ use Rattle.math_base.proofs.Lists.{all_join, all_so, all_at}
 use Rattle.math_base.proofs.Numbers.{below_same_or_above}
 use Rattle.sight_names.specs.Map.{Map, MapLine, line_at}
 use Rattle.map_picture.specs.declared.sheet.Subject.{Subject}
-use Rattle.map_picture.specs.Picture.{Element, Head, Title, Style, Paper, Scale, Line, Foot, entry_if, line_elements, line_if, lines_from, picture_of, sheet_of}
+use Rattle.map_picture.specs.Picture.{NamedParts, Element, Head, Title, Style, Paper, Scale, Line, Foot, entry_if, line_elements, line_if, lines_from, picture_of, sheet_of}
 use Rattle.map_picture.specs.Laws.{Has, HasNoLine, IsLineBefore, ShowsLines}
 use Rattle.map_picture.proofs.Pieces.{has_before, has_behind}
 
@@ -140,16 +140,16 @@ order_elements m = order_join (lines_from false 0 m.lines) (lines_from true 0 m.
 
 -- ---- the whole
 
-none_in_sheet : (name : List ℕ) (about : Subject) → AllByRecursion NoLine (sheet_of name about)
+none_in_sheet : (name : NamedParts) (about : Subject) → AllByRecursion NoLine (sheet_of name about)
 none_in_sheet name about = ((λ i l e. head i l e), ((λ i l e. title i l e), ((λ i l e. style i l e), ((λ i l e. paper i l e), ((λ i l e. scale i l e), tt)))))
   where
     head : (i : ℕ) (l : MapLine) → Head ≡ Line i l → ⊥
     head i l e = cc
 
-    title : (i : ℕ) (l : MapLine) → Title name about ≡ Line i l → ⊥
+    title : (i : ℕ) (l : MapLine) → Title name.text about ≡ Line i l → ⊥
     title i l e = cc
 
-    scale : (i : ℕ) (l : MapLine) → Scale ≡ Line i l → ⊥
+    scale : (i : ℕ) (l : MapLine) → Scale name.places ≡ Line i l → ⊥
     scale i l e = cc
 
     style : (i : ℕ) (l : MapLine) → Style ≡ Line i l → ⊥
@@ -164,7 +164,7 @@ none_in_foot = ((λ i l e. foot i l e), tt)
     foot : (i : ℕ) (l : MapLine) → Foot ≡ Line i l → ⊥
     foot i l e = cc
 
-order_picture : (name : List ℕ) (about : Subject) (m : Map) (under over : List Element) → HasNoLine under → HasNoLine over → InOrder (picture_of name about m under over)
+order_picture : (name : NamedParts) (about : Subject) (m : Map) (under over : List Element) → HasNoLine under → HasNoLine over → InOrder (picture_of name about m under over)
 order_picture name about m under over h k =
     let sheet = sheet_of name about in
     let front = sheet ++ under in
@@ -256,7 +256,7 @@ of_lines m i l e = go l.solid refl
     go true q = has_behind (lines_from false 0 m.lines) (lines_from true 0 m.lines) (Line i l) (subst (λ (b : Bool). Has (lines_from b 0 m.lines) (Line i l)) q there)
     go false q = has_before (lines_from false 0 m.lines) (lines_from true 0 m.lines) (Line i l) (subst (λ (b : Bool). Has (lines_from b 0 m.lines) (Line i l)) q there)
 
-in_picture : (name : List ℕ) (about : Subject) (m : Map) (under over : List Element) → HasNoLine under → HasNoLine over → (i : ℕ) (l : MapLine) → Has (picture_of name about m under over) (Line i l) → line_at m i ≡ Some l
+in_picture : (name : NamedParts) (about : Subject) (m : Map) (under over : List Element) → HasNoLine under → HasNoLine over → (i : ℕ) (l : MapLine) → Has (picture_of name about m under over) (Line i l) → line_at m i ≡ Some l
 in_picture name about m under over h k i l has =
     let sheet = sheet_of name about in
     let front = sheet ++ under in
@@ -271,7 +271,7 @@ in_picture name about m under over h k i l has =
     (λ a. absurd (drop_none (Foot ∷ []) i l none_in_foot a))
     (has_either (front ++ line_elements m ++ over) (Foot ∷ []) (Line i l) has)
 
-of_picture : (name : List ℕ) (about : Subject) (m : Map) (under over : List Element) (i : ℕ) (l : MapLine) → line_at m i ≡ Some l → Has (picture_of name about m under over) (Line i l)
+of_picture : (name : NamedParts) (about : Subject) (m : Map) (under over : List Element) (i : ℕ) (l : MapLine) → line_at m i ≡ Some l → Has (picture_of name about m under over) (Line i l)
 of_picture name about m under over i l e =
     let front = sheet_of name about ++ under in
     has_before (front ++ line_elements m ++ over) (Foot ∷ []) (Line i l)
@@ -281,7 +281,7 @@ never_before_itself : (i : ℕ) (l : MapLine) → IsLineBefore i l i l → ⊥
 never_before_itself i l (inl h) = true≢false (sym h.1 ∙ h.0)
 never_before_itself i l (inr h) = let lt = h.1 in omega arith
 
-pub lines_shown : (name : List ℕ) (about : Subject) (m : Map) (under over : List Element) → HasNoLine under → HasNoLine over → ShowsLines m (picture_of name about m under over)
+pub lines_shown : (name : NamedParts) (about : Subject) (m : Map) (under over : List Element) → HasNoLine under → HasNoLine over → ShowsLines m (picture_of name about m under over)
 lines_shown name about m under over h k = record { exactly = exactly; order = order; once = once }
   where
     exactly : (i : ℕ) (l : MapLine) → Has (picture_of name about m under over) (Line i l) ↔ (line_at m i ≡ Some l)

@@ -12,7 +12,7 @@ use Rattle.map_picture.specs.declared.faults.PointFault.{PointFault}
 use Rattle.map_picture.specs.declared.rings.Letter.{Letter}
 use Rattle.map_picture.specs.declared.sheet.Subject.{Subject}
 use Rattle.map_picture.specs.declared.rings.Letter.TheVariants as letter
-use Rattle.map_picture.specs.Picture.{Element, Head, Title, Style, Paper, Scale, Line, Fault, Out, Ring, Foot, arrows_from, entry_if, fault_if, faults_from, largest_of, line_elements, line_if, lines_from, pair_rings, picture_of, ring_at, ring_of, sheet_of}
+use Rattle.map_picture.specs.Picture.{NamedParts, Element, Head, Title, Style, Paper, Scale, Line, Fault, Out, Ring, Foot, arrows_from, entry_if, fault_if, faults_from, largest_of, line_elements, line_if, lines_from, pair_rings, picture_of, ring_at, ring_of, sheet_of}
 use Rattle.map_picture.specs.Laws.{Has}
 
 -- ---- what holds of every line
@@ -57,19 +57,19 @@ module _ (P : Element → Type 0) (ring : (which : Letter) (sector : ℕ) (t : T
 
 -- ---- what holds of every ring round a point at fault
 
-module _ (P : Element → Type 0) (fault : (what : PointFault) (c : Pt) → P (Fault what c)) where
-  all_if_fault : (what : PointFault) (o : Option Pt) → AllByRecursion P (fault_if what o)
+module _ (P : Element → Type 0) (places : ℕ) (fault : (what : PointFault) (c : Pt) → P (Fault places what c)) where
+  all_if_fault : (what : PointFault) (o : Option Pt) → AllByRecursion P (fault_if places what o)
   all_if_fault what None = tt
   all_if_fault what (Some c) = (fault what c, tt)
 
-  pub all_faults : (faults : List FaultAt) → AllByRecursion P (faults_from faults)
+  pub all_faults : (faults : List FaultAt) → AllByRecursion P (faults_from places faults)
   all_faults [] = tt
-  all_faults (a ∷ faults) = all_join P (fault_if a.fault a.at) (faults_from faults) (all_if_fault a.fault a.at) (all_faults faults)
+  all_faults (a ∷ faults) = all_join P (fault_if places a.fault a.at) (faults_from places faults) (all_if_fault a.fault a.at) (all_faults faults)
 
 -- ---- what holds of every arrow
 
-module _ (P : Element → Type 0) (out : (w : Arrow) → P (Out w)) where
-  pub all_arrows : (arrows : List Arrow) → AllByRecursion P (arrows_from arrows)
+module _ (P : Element → Type 0) (places : ℕ) (out : (w : Arrow) → P (Out places w)) where
+  pub all_arrows : (arrows : List Arrow) → AllByRecursion P (arrows_from places arrows)
   all_arrows [] = tt
   all_arrows (w ∷ arrows) = (out w, all_arrows arrows)
 
@@ -87,12 +87,12 @@ pub has_behind : (xs ys : List Element) (e : Element) → Has ys e → Has (xs +
 has_behind [] ys e h = h
 has_behind (x ∷ xs) ys e h = let r = has_behind xs ys e h in (suc r.0, r.1)
 
-pub has_under : (name : List ℕ) (about : Subject) (m : Map) (under over : List Element) (e : Element) → Has under e → Has (picture_of name about m under over) e
+pub has_under : (name : NamedParts) (about : Subject) (m : Map) (under over : List Element) (e : Element) → Has under e → Has (picture_of name about m under over) e
 has_under name about m under over e h =
     let sheet = sheet_of name about in
     has_before (sheet ++ under ++ line_elements m ++ over) (Foot ∷ []) e (has_before (sheet ++ under ++ line_elements m) over e (has_before (sheet ++ under) (line_elements m) e (has_behind sheet under e h)))
 
-pub has_over : (name : List ℕ) (about : Subject) (m : Map) (under over : List Element) (e : Element) → Has over e → Has (picture_of name about m under over) e
+pub has_over : (name : NamedParts) (about : Subject) (m : Map) (under over : List Element) (e : Element) → Has over e → Has (picture_of name about m under over) e
 has_over name about m under over e h =
     let sheet = sheet_of name about in
     has_before (sheet ++ under ++ line_elements m ++ over) (Foot ∷ []) e (has_behind (sheet ++ under ++ line_elements m) over e h)
@@ -137,9 +137,9 @@ module _ (P : Element → Type 0) where
       let first = r.1 in let second = s.1 in
       omega (arith, same, first, second)
 
-  module _ (name : List ℕ) (about : Subject) (m : Map) (head : NotSo Head) (title : (n : List ℕ) (s : Subject) → NotSo (Title n s)) (style : NotSo Style) (paper : NotSo Paper) (scale : NotSo Scale) (foot : NotSo Foot) (line : (i : ℕ) (l : MapLine) → NotSo (Line i l)) where
+  module _ (name : NamedParts) (about : Subject) (m : Map) (head : NotSo Head) (title : (n : List ℕ) (s : Subject) → NotSo (Title n s)) (style : NotSo Style) (paper : NotSo Paper) (scale : (n : ℕ) → NotSo (Scale n)) (foot : NotSo Foot) (line : (i : ℕ) (l : MapLine) → NotSo (Line i l)) where
     not_sheet : AllByRecursion NotSo (sheet_of name about)
-    not_sheet = (head, (title name about, (style, (paper, (scale, tt)))))
+    not_sheet = (head, (title name.text about, (style, (paper, (scale name.places, tt)))))
 
     pub at_under : (under over : List Element) → AllByRecursion NotSo over → (p : ℕ) (e : Element) → P e → slice_get (picture_of name about m under over) p ≡ Some e → (q : ℕ) × (p ≡ 5 + q) × (slice_get under q ≡ Some e)
     at_under under over h p e so at =

@@ -19,7 +19,7 @@ use Rattle.geom_exact.proofs.SegmentLemmas.{IsWeighted, on}
 use Rattle.map_picture.specs.Frame.{across, down, frame_of}
 use Rattle.map_picture.specs.Crossings.{IsCutDown, IsSpotOf, crossing_spot}
 use Rattle.map_picture.specs.declared.sheet.Subject.TheVariants as subject
-use Rattle.map_picture.specs.Picture.{Sight, pair_faces, pair_rings, pair_tint, sight_between, sight_elements, sight_picture}
+use Rattle.map_picture.specs.Picture.{NamedParts, Sight, pair_faces, pair_rings, pair_tint, sight_between, sight_elements, sight_picture}
 use Rattle.map_picture.specs.Laws.{Has, ShowsRay}
 use Rattle.map_picture.proofs.Extras.{rings_words, sight_words}
 use Rattle.map_picture.proofs.Framed.{read_back}
@@ -159,7 +159,7 @@ module _ (m : Map) (r : Ray) where
       subst (λ (x : Option MapLine). Has (sight_between r x p) (Sight r first last)) (sym is)
       (subst (λ (x : Option MapLine). Has (sight_between r (Some first) x) (Sight r first last)) (sym is_too) (zero, refl))
 
-pub ray_drawn : (name : List ℕ) (m : Map) (groups : List (List ℕ)) (ts : List Triangle) (labels : List (Option ℕ)) (a b f k : ℕ) (r : Ray) → IsSightRay m r f k → ShowsRay m r (sight_picture name m groups ts labels a b r)
+pub ray_drawn : (name : NamedParts) (m : Map) (groups : List (List ℕ)) (ts : List Triangle) (labels : List (Option ℕ)) (a b f k : ℕ) (r : Ray) → IsSightRay m r f k → ShowsRay m r (sight_picture name m groups ts labels a b r)
 ray_drawn name m groups ts labels a b f k r s = record {
   first = s.first;
   last = s.last;

@@ -1,6 +1,6 @@
 -- The bytes of a picture: SVG, one element a line. The whole, each face and each line have a title, which a browser shows under the
 -- pointer; what has none lets the pointer through.
-use Rattle.std.specs.Prelude.{ℕ, ◌+◌, ◌*◌, ◌/◌, ◌%◌, ◌==◌, List, [], ◌∷◌, ◌++◌, Option, Some, None, Bool, true, false, ℤ, codes, slice_index_or, if◌then◌else◌}
+use Rattle.std.specs.Prelude.{ℕ, zero, suc, ◌+◌, ◌*◌, ◌/◌, ◌%◌, ◌-◌, ◌==◌, ◌||◌, List, [], ◌∷◌, ◌++◌, Option, Some, None, Bool, true, false, ℤ, pos, int_lt, unsigned_abs, codes, replicate, slice_index_or, if◌then◌else◌}
 use Rattle.std.specs.Fmt.{decimal, signed_decimal}
 use Rattle.std.specs.List.{flat_map, range_with_len}
 use Rattle.sight_names.specs.declared.faults.LineFault.TheVariants as clash
@@ -12,6 +12,7 @@ use Rattle.sight_names.specs.Map.{Map, MapLine, line_at, origin}
 use Rattle.sight_names.specs.Points.{place, points_of}
 use Rattle.map_picture.specs.declared.frame.Frame.{Frame}
 use Rattle.map_picture.specs.declared.frame.Sizes.{Sizes}
+use Rattle.map_picture.specs.declared.scale.Bar.{Bar}
 use Rattle.map_picture.specs.declared.crossings.Spot.{Spot}
 use Rattle.map_picture.specs.declared.arrows.Arrow.{Arrow}
 use Rattle.map_picture.specs.declared.arrows.Corners.{Corners}
@@ -25,7 +26,9 @@ use Rattle.map_picture.specs.declared.sheet.Subject.{Subject}
 use Rattle.map_picture.specs.declared.sheet.Subject.TheVariants as subject
 use Rattle.map_picture.specs.declared.tint.Tint.{Tint}
 use Rattle.map_picture.specs.declared.tint.Tint.TheVariants as tint
-use Rattle.map_picture.specs.Frame.{across, down, frame_of, sizes_of}
+use Rattle.map_picture.specs.declared.units.Short.{Short}
+use Rattle.map_picture.specs.Frame.{across, down, frame_of, sizes_of, width_of}
+use Rattle.map_picture.specs.Scale.{bar_for}
 use Rattle.map_picture.specs.Crossings.{crossing_spot}
 use Rattle.map_picture.specs.Picture.{Element, Head, Title, Style, Paper, Scale, Face, Line, Entered, Stops, Sight, Marked, Fault, Out, Ring, Legend, Foot, heat_of}
 
@@ -35,7 +38,7 @@ count_text word n = word ++ decimal n
 
 -- ---- the head
 
--- how wide and high the picture is, in map units and in pixels
+-- how wide and high the picture is, in the map's own unit and in pixels
 unfoldable pub size_text : Sizes → List ℕ
 size_text s = count_text (codes " ") s.wide ++ count_text (codes " ") s.high ++ count_text (codes "\" width=\"") s.wide_pixels ++ count_text (codes "\" height=\"") s.high_pixels
 
@@ -72,7 +75,7 @@ title_text name about = codes "<title>" ++ escaped name ++ subject_text about ++
 abbrev pub light_text : List ℕ
 light_text = codes "<style>path,circle{fill:none;stroke-linecap:round}.w,.u,.o{stroke:#000}.p{stroke:#9a9a9a}.k,.r{stroke:#d62728}.i{stroke:#fff}.a{fill:#1f77b4}.b{fill:#ff7f0e}.c{fill:#9ecae1}.s{fill:#e4e4e4}.f{fill:#a1d99b;stroke:#41ab5d}.k,.f,.u,.n{pointer-events:none}"
 
--- how thick strokes are, in map units, and where that is known in pixels at any size of the picture
+-- how thick strokes are, in the map's own unit, and where that is known in pixels at any size of the picture
 unfoldable pub units_text : ℕ → List ℕ
 units_text stroke = count_text (codes "path,circle{stroke-width:") stroke ++ count_text (codes "}.w,.o{stroke-width:") (2 * stroke) ++ count_text (codes "}.r,.u{stroke-width:") (3 * stroke)
     ++ count_text (codes "}.k{stroke-width:") (4 * stroke) ++ count_text (codes "}.i{stroke-width:") (6 * stroke)
@@ -103,10 +106,18 @@ paper_text s = count_text (codes "<rect class=\"paper\" fill=\"#fff\" x=\"-") s.
 unfoldable pub written_text : List ℕ → ℕ → ℕ → List ℕ → List ℕ
 written_text word x y moved = word ++ count_text (codes "<text x=\"") x ++ count_text (codes "\" y=\"") y ++ moved
 
--- a bar from below the map's left edge, and behind it how long it is
-unfoldable pub scale_text : Sizes → List ℕ
-scale_text s = count_text (codes "<path class=\"u\" d=\"M0 ") s.strip ++ count_text (codes "H") s.scale
-    ++ written_text (codes "\"/>") s.scale s.strip (codes "\" dx=\".6em\" dy=\".36em\" class=\"n\">") ++ count_text [] s.scale ++ codes "</text>\n"
+-- so many of the last of some decimal places, as a number without zeros at its end where these are less than ten
+unfoldable pub tenths_text : ℕ → ℕ → List ℕ
+tenths_text count behind = codes "0." ++ replicate (behind - 1) 48 ++ decimal count
+
+-- how long a bar is in map units
+abbrev pub told_text : Bar → List ℕ
+told_text b = if b.behind == 0 || b.steps == 0 then decimal b.steps else tenths_text b.steps b.behind
+
+-- a bar from below the map's left edge, and behind it how long it is in map units
+unfoldable pub scale_text : Sizes → Bar → List ℕ
+scale_text s b = count_text (codes "<path class=\"u\" d=\"M0 ") s.strip ++ count_text (codes "H") b.length
+    ++ written_text (codes "\"/>") b.length s.strip (codes "\" dx=\".6em\" dy=\".36em\" class=\"n\">") ++ told_text b ++ codes "</text>\n"
 
 -- ---- points and ids
 
@@ -302,15 +313,42 @@ fault_words (point.Clash (clash.Overlap i j)) = clash_text i j (codes " overlap"
 fault_words point.Torn = codes "torn corner"
 fault_words (point.Loose i) = count_text (codes "loose end of line ") i
 
-unfoldable pub coordinate_text : List ℕ → ℤ → List ℕ
-coordinate_text word n = word ++ signed_decimal n
+-- the same number by as few decimal places as tell it
+unfoldable pub shortest : ℕ → ℕ → Short
+shortest zero n = record { count = n; places = 0 }
+shortest (suc places) n = if n % 10 == 0 then shortest places (n / 10) else record { count = n; places = suc places }
 
--- the coordinates as the map has them
-unfoldable pub place_text : Pt → List ℕ
-place_text c = coordinate_text (codes " at ") c.x ++ coordinate_text (codes ", ") c.y
+-- a number without so many of its last digits, and these
+unfoldable pub cut_off : ℕ → ℕ → ℕ
+cut_off zero n = n
+cut_off (suc places) n = cut_off places (n / 10)
 
-unfoldable pub fault_title : PointFault → Pt → List ℕ
-fault_title what c = codes "<g><title>" ++ fault_words what ++ place_text c ++ codes "</title>"
+unfoldable pub digits_text : ℕ → ℕ → List ℕ
+digits_text zero n = []
+digits_text (suc places) n = decimal (cut_off places n % 10) ++ digits_text places n
+
+unfoldable pub parted_text : ℕ → ℕ → List ℕ
+parted_text places n = decimal (cut_off places n) ++ codes "." ++ digits_text places n
+
+abbrev pub short_text : Short → List ℕ
+short_text s = if s.places == 0 then decimal s.count else parted_text s.places s.count
+
+abbrev pub sign_text : ℤ → List ℕ
+sign_text n = if int_lt n (pos 0) then codes "-" else []
+
+-- so many of the last of some decimal places, as a number of map units
+unfoldable pub units_of : ℕ → ℤ → List ℕ
+units_of places n = sign_text n ++ short_text (shortest places (unsigned_abs n))
+
+unfoldable pub coordinate_text : ℕ → List ℕ → ℤ → List ℕ
+coordinate_text places word n = word ++ units_of places n
+
+-- the coordinates in map units
+unfoldable pub place_text : ℕ → Pt → List ℕ
+place_text places c = coordinate_text places (codes " at ") c.x ++ coordinate_text places (codes ", ") c.y
+
+unfoldable pub fault_title : ℕ → PointFault → Pt → List ℕ
+fault_title places what c = codes "<g><title>" ++ fault_words what ++ place_text places c ++ codes "</title>"
 
 -- two circles, of which the wider one sets off the other
 unfoldable pub fault_shape : ℕ → ℕ → ℕ → List ℕ
@@ -322,19 +360,19 @@ fault_radius margin (point.Clash which) = margin
 fault_radius margin point.Torn = margin
 fault_radius margin (point.Loose i) = margin / 2 + 1
 
-abbrev pub fault_text : Frame → PointFault → Pt → List ℕ
-fault_text f what c = fault_title what c ++ fault_shape (across f c) (down f c) (fault_radius (sizes_of f).margin what)
+abbrev pub fault_text : Frame → ℕ → PointFault → Pt → List ℕ
+fault_text f places what c = fault_title places what c ++ fault_shape (across f c) (down f c) (fault_radius (sizes_of f).margin what)
 
 -- .. if there is such a point
-abbrev pub fault_place_text : Frame → PointFault → Option Pt → List ℕ
-fault_place_text f what None = []
-fault_place_text f what (Some c) = fault_text f what c
+abbrev pub fault_place_text : Frame → ℕ → PointFault → Option Pt → List ℕ
+fault_place_text f places what None = []
+fault_place_text f places what (Some c) = fault_text f places what c
 
-abbrev pub fault_at_text : Frame → FaultAt → List ℕ
-fault_at_text f a = fault_place_text f a.fault a.at
+abbrev pub fault_at_text : Frame → ℕ → FaultAt → List ℕ
+fault_at_text f places a = fault_place_text f places a.fault a.at
 
-abbrev pub fault_texts : Frame → List FaultAt → List ℕ
-fault_texts f faults = flat_map (fault_at_text f) faults
+abbrev pub fault_texts : Frame → ℕ → List FaultAt → List ℕ
+fault_texts f places faults = flat_map (fault_at_text f places) faults
 
 -- ---- arrows round torn corners
 
@@ -360,18 +398,18 @@ unfoldable pub arrow_shape : Frame → Corners → List ℕ
 arrow_shape f c = base_text f (codes "<path class=\"r\" d=\"M") c.from c.point ++ base_text f (codes "L") c.point c.from ++ tip_text f c.point c.to
 
 -- the torn corner as a title, which ends the path
-unfoldable pub arrow_title : Pt → List ℕ
-arrow_title c = codes "z\"><title>out round the torn corner" ++ place_text c ++ codes "</title></path>\n"
+unfoldable pub arrow_title : ℕ → Pt → List ℕ
+arrow_title places c = codes "z\"><title>out round the torn corner" ++ place_text places c ++ codes "</title></path>\n"
 
-unfoldable pub arrow_text : Frame → Corners → List ℕ
-arrow_text f c = arrow_shape f c ++ arrow_title c.point
+unfoldable pub arrow_text : Frame → ℕ → Corners → List ℕ
+arrow_text f places c = arrow_shape f c ++ arrow_title places c.point
 
 -- the points with the three numbers
 abbrev pub corners_in : List Pt → Arrow → Corners
 corners_in points w = record { from = slice_index_or points w.from origin; point = slice_index_or points w.point origin; to = slice_index_or points w.to origin }
 
-abbrev pub arrow_texts : Frame → List Pt → List Arrow → List ℕ
-arrow_texts f points arrows = flat_map (λ (w : Arrow). arrow_text f (corners_in points w)) arrows
+abbrev pub arrow_texts : Frame → ℕ → List Pt → List Arrow → List ℕ
+arrow_texts f places points arrows = flat_map (λ (w : Arrow). arrow_text f places (corners_in points w)) arrows
 
 -- ---- the legend of shades
 
@@ -398,15 +436,15 @@ bytes_of f m Head = head_text (sizes_of f)
 bytes_of f m (Title name about) = title_text name about
 bytes_of f m Style = style_text (sizes_of f)
 bytes_of f m Paper = paper_text (sizes_of f)
-bytes_of f m Scale = scale_text (sizes_of f)
+bytes_of f m (Scale places) = scale_text (sizes_of f) (bar_for (width_of f) places)
 bytes_of f m (Face t g names ts) = face_text f m t g names ts
 bytes_of f m (Line i l) = line_text f i l
 bytes_of f m (Entered sector us) = entered_text f m sector us
 bytes_of f m (Stops ss) = stops_text f m ss
 bytes_of f m (Sight r first last) = sight_text f r first last
 bytes_of f m (Marked marks) = marked_text f m marks
-bytes_of f m (Fault what c) = fault_text f what c
-bytes_of f m (Out w) = arrow_text f (corners_in (points_of m) w)
+bytes_of f m (Fault places what c) = fault_text f places what c
+bytes_of f m (Out places w) = arrow_text f places (corners_in (points_of m) w)
 bytes_of f m (Ring which sector t) = ring_text f m which sector t
 bytes_of f m (Legend most) = legend_text (sizes_of f) most
 bytes_of f m Foot = codes "</svg>\n"

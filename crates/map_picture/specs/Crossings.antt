@@ -1,4 +1,4 @@
--- Where a ray crosses a line, as a picture has it: in thousandths of map units, cut down.
+-- Where a ray crosses a line, as a picture has it: in thousandths of the map's own unit, cut down.
 use Rattle.std.specs.Prelude.{ℕ, ◌+◌, ◌*◌, ◌/◌, ℤ, pos, ◌+ℤ◌, ◌-ℤ◌, ◌*ℤ◌, ◌≤ℤ◌, ◌<ℤ◌, unsigned_abs}
 use Rattle.sight_names.specs.declared.names.Pt.{Pt}
 use Rattle.sight_names.specs.declared.names.Ray.{Ray}

@@ -1,6 +1,6 @@
 -- The frame of a picture: the least and greatest coordinates of the points, and the sizes that follow from them. All
--- sizes are whole map units, since a width in pixels isn't drawn by each reader of such files.
-use Rattle.std.specs.Prelude.{ℕ, ◌+◌, ◌*◌, ◌/◌, max, pos, ◌-ℤ◌, List, [], ◌∷◌, unsigned_abs, nat_le, if◌then◌else◌}
+-- sizes are whole, in the map's own unit, since a width in pixels isn't drawn by each reader of such files.
+use Rattle.std.specs.Prelude.{ℕ, ◌+◌, ◌*◌, ◌/◌, max, pos, ◌-ℤ◌, List, [], ◌∷◌, unsigned_abs}
 use Rattle.std.specs.Int.{int_max, int_min}
 use Rattle.sight_names.specs.declared.names.Pt.{Pt}
 use Rattle.map_picture.specs.declared.frame.Frame.{Frame}
@@ -33,15 +33,7 @@ height_of f = unsigned_abs (f.top -ℤ f.bottom)
 abbrev pub margin_for : ℕ → ℕ
 margin_for longer = longer / 50 + 1
 
--- what the length of a scale of about so many units is a multiple of
-abbrev pub grain_for : ℕ → ℕ
-grain_for length = if nat_le 1024 length then 1024 else if nat_le 128 length then 128 else if nat_le 16 length then 16 else 1
-
--- how long the scale of a picture of this width is: a fourth of it, cut down to a multiple that one reads easily
-abbrev pub scale_for : ℕ → ℕ
-scale_for width = width / 4 / grain_for (width / 4) * grain_for (width / 4)
-
--- The size of a picture of so many map units, with a strip below for the scale. The longer side of the map and its two margins are
+-- The size of a picture of so many of the map's units, with a strip below for the scale. The longer side of the map and its two margins are
 -- 1000 pixels.
 abbrev pub sizes_for : ℕ → ℕ → Sizes
 sizes_for width height =
@@ -54,7 +46,6 @@ sizes_for width height =
       high = height + 2 * around;
       wide_pixels = 1000 * (width + around) / (longer + around);
       high_pixels = 1000 * (height + 2 * around) / (longer + around);
-      scale = scale_for width;
       strip = height + around;
     }
 

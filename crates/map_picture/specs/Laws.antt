@@ -1,5 +1,5 @@
 -- What a picture shows: its lines are those of the map, its faces those of the groups, and their tints the table's row.
-use Rattle.std.specs.Prelude.{◌≡◌, ◌≢◌, ℕ, ◌^◌, ◌<◌, ◌≤◌, ◌⊎◌, ◌↔◌, List, [], Option, Some, true, false, All, Contains, length, map, slice_get, slice_index_or, pos, ◌+ℤ◌, ◌-ℤ◌}
+use Rattle.std.specs.Prelude.{◌≡◌, ◌≢◌, ℕ, ◌^◌, ◌<◌, ◌≤◌, ◌⊎◌, ◌↔◌, ◌*◌, ◌/◌, List, [], Option, Some, true, false, All, Contains, length, map, slice_get, slice_index_or, pos, ◌+ℤ◌, ◌-ℤ◌}
 use Rattle.sight_names.specs.declared.names.Pt.{Pt}
 use Rattle.sight_names.specs.declared.names.Ray.{Ray}
 use Rattle.sight_names.specs.declared.names.Triangle.{Triangle}
@@ -16,13 +16,15 @@ use Rattle.map_picture.specs.declared.faults.FaultAt.{FaultAt}
 use Rattle.map_picture.specs.declared.faults.PointFault.{PointFault}
 use Rattle.map_picture.specs.declared.pair.Stop.{Stop}
 use Rattle.map_picture.specs.declared.rings.Letter.{Letter}
+use Rattle.map_picture.specs.declared.scale.Bar.{Bar}
 use Rattle.map_picture.specs.declared.sheet.Subject.{Subject}
 use Rattle.map_picture.specs.declared.tint.Tint.{Tint}
 use Rattle.map_picture.specs.declared.tint.Tint.TheVariants as tint
 use Rattle.map_picture.specs.Bytes.{id_of}
 use Rattle.map_picture.specs.Crossings.{IsSpotOf, crossing_spot}
 use Rattle.map_picture.specs.Frame.{across, down, frame_of, height_of, width_of}
-use Rattle.map_picture.specs.Picture.{Element, Face, Line, Entered, Stops, Sight, Marked, Fault, Out, Ring, blind_picture, heat_picture, marked_picture, most_of, pair_picture, picture_of, plan_picture, ring_of, row_picture, sight_picture}
+use Rattle.map_picture.specs.Scale.{bar_for}
+use Rattle.map_picture.specs.Picture.{Element, NamedParts, Face, Line, Entered, Stops, Sight, Marked, Fault, Out, Ring, blind_picture, heat_picture, marked_picture, most_of, pair_picture, picture_of, plan_picture, ring_of, row_picture, sight_picture}
 
 -- the picture has this element
 abbrev pub Has : List Element → Element → Type 0
@@ -46,7 +48,7 @@ pub record ShowsLines (m : Map) (picture : List Element) : Type 0 where
 
 -- every picture of a map shows its lines, whatever further elements it has, if none of these is a line
 abbrev pub LinesAreShown : Type 0
-LinesAreShown = (name : List ℕ) (about : Subject) (m : Map) (under over : List Element) → HasNoLine under → HasNoLine over → ShowsLines m (picture_of name about m under over)
+LinesAreShown = (name : NamedParts) (about : Subject) (m : Map) (under over : List Element) → HasNoLine under → HasNoLine over → ShowsLines m (picture_of name about m under over)
 
 -- ---- the row
 
@@ -73,7 +75,7 @@ pub record ShowsFaces (groups : List (List ℕ)) (ts : List Triangle) (labels : 
 
 -- a row's faces tell what the table has
 abbrev pub RowIsShown : Type 0
-RowIsShown = (name : List ℕ) (m : Map) (groups : List (List ℕ)) (ts : List Triangle) (labels : List (Option ℕ)) (t : TableParts) (a : ℕ) → ShowsFaces groups ts labels (TellsRow t a) (row_picture name m groups ts labels t a)
+RowIsShown = (name : NamedParts) (m : Map) (groups : List (List ℕ)) (ts : List Triangle) (labels : List (Option ℕ)) (t : TableParts) (a : ℕ) → ShowsFaces groups ts labels (TellsRow t a) (row_picture name m groups ts labels t a)
 
 -- ---- the plan
 
@@ -82,7 +84,7 @@ abbrev pub TellsNothing : List ℕ → Tint → Type 0
 TellsNothing names t = t ≡ tint.Other
 
 abbrev pub PlanFacesAreShown : Type 0
-PlanFacesAreShown = (name : List ℕ) (m : Map) (groups : List (List ℕ)) (ts : List Triangle) (labels : List (Option ℕ)) → ShowsFaces groups ts labels TellsNothing (plan_picture name m groups ts labels)
+PlanFacesAreShown = (name : NamedParts) (m : Map) (groups : List (List ℕ)) (ts : List Triangle) (labels : List (Option ℕ)) → ShowsFaces groups ts labels TellsNothing (plan_picture name m groups ts labels)
 
 -- ---- how much is seen
 
@@ -92,7 +94,7 @@ TellsHeat count most names t = t ≡ tint.Heat (count names) most
 
 -- where each group has a count its face has that one's shade, out of those up to the greatest
 abbrev pub HeatIsShown : Type 0
-HeatIsShown = (name : List ℕ) (m : Map) (groups : List (List ℕ)) (ts : List Triangle) (labels : List (Option ℕ)) (count : List ℕ → ℕ)
+HeatIsShown = (name : NamedParts) (m : Map) (groups : List (List ℕ)) (ts : List Triangle) (labels : List (Option ℕ)) (count : List ℕ → ℕ)
     → ShowsFaces groups ts labels (TellsHeat count (most_of (map count groups))) (heat_picture name m groups ts labels (map count groups))
 
 -- ---- a pair
@@ -108,13 +110,13 @@ TellsPair a b names (tint.Heat count most) = ⊥
 
 -- a pair's faces tell which of the two sectors a group names
 abbrev pub SightFacesAreShown : Type 0
-SightFacesAreShown = (name : List ℕ) (m : Map) (groups : List (List ℕ)) (ts : List Triangle) (labels : List (Option ℕ)) (a b : ℕ) (r : Ray) → ShowsFaces groups ts labels (TellsPair a b) (sight_picture name m groups ts labels a b r)
+SightFacesAreShown = (name : NamedParts) (m : Map) (groups : List (List ℕ)) (ts : List Triangle) (labels : List (Option ℕ)) (a b : ℕ) (r : Ray) → ShowsFaces groups ts labels (TellsPair a b) (sight_picture name m groups ts labels a b r)
 
 abbrev pub PairFacesAreShown : Type 0
-PairFacesAreShown = (name : List ℕ) (m : Map) (groups : List (List ℕ)) (ts : List Triangle) (labels : List (Option ℕ)) (a b : ℕ) → ShowsFaces groups ts labels (TellsPair a b) (pair_picture name m groups ts labels a b)
+PairFacesAreShown = (name : NamedParts) (m : Map) (groups : List (List ℕ)) (ts : List Triangle) (labels : List (Option ℕ)) (a b : ℕ) → ShowsFaces groups ts labels (TellsPair a b) (pair_picture name m groups ts labels a b)
 
 abbrev pub BlindFacesAreShown : Type 0
-BlindFacesAreShown = (name : List ℕ) (m : Map) (groups : List (List ℕ)) (ts : List Triangle) (labels : List (Option ℕ)) (a b sector : ℕ) (entered : List ℕ) (stops : List Stop) → ShowsFaces groups ts labels (TellsPair a b) (blind_picture name m groups ts labels a b sector entered stops)
+BlindFacesAreShown = (name : NamedParts) (m : Map) (groups : List (List ℕ)) (ts : List Triangle) (labels : List (Option ℕ)) (a b sector : ℕ) (entered : List ℕ) (stops : List Stop) → ShowsFaces groups ts labels (TellsPair a b) (blind_picture name m groups ts labels a b sector entered stops)
 
 -- the ray is there once, from its first side's line to its last side's, and its two spots are where it crosses them
 pub record ShowsRay (m : Map) (r : Ray) (picture : List Element) : Type 0 where
@@ -128,7 +130,7 @@ pub record ShowsRay (m : Map) (r : Ray) (picture : List Element) : Type 0 where
   pub stop : (z : Point) → IsCrossing r last z → IsSpotOf (frame_of (points_of m)) z (crossing_spot (frame_of (points_of m)) r last.first last.second)
 
 abbrev pub RayIsDrawn : Type 0
-RayIsDrawn = (name : List ℕ) (m : Map) (groups : List (List ℕ)) (ts : List Triangle) (labels : List (Option ℕ)) (a b f k : ℕ) (r : Ray) → IsSightRay m r f k → ShowsRay m r (sight_picture name m groups ts labels a b r)
+RayIsDrawn = (name : NamedParts) (m : Map) (groups : List (List ℕ)) (ts : List Triangle) (labels : List (Option ℕ)) (a b f k : ℕ) (r : Ray) → IsSightRay m r f k → ShowsRay m r (sight_picture name m groups ts labels a b r)
 
 -- exactly the triangles with these numbers are there as entered out of the sector, in one element
 pub record ShowsEntered (ts : List Triangle) (sector : ℕ) (entered : List ℕ) (picture : List Element) : Type 0 where
@@ -145,10 +147,10 @@ pub record ShowsStops (stops : List Stop) (picture : List Element) : Type 0 wher
   pub once : (i j : ℕ) (ss us : List Stop) → slice_get picture i ≡ Some (Stops ss) → slice_get picture j ≡ Some (Stops us) → i ≡ j
 
 abbrev pub EnteredIsShown : Type 0
-EnteredIsShown = (name : List ℕ) (m : Map) (groups : List (List ℕ)) (ts : List Triangle) (labels : List (Option ℕ)) (a b sector : ℕ) (entered : List ℕ) (stops : List Stop) → All (λ k. k < length ts) entered → ShowsEntered ts sector entered (blind_picture name m groups ts labels a b sector entered stops)
+EnteredIsShown = (name : NamedParts) (m : Map) (groups : List (List ℕ)) (ts : List Triangle) (labels : List (Option ℕ)) (a b sector : ℕ) (entered : List ℕ) (stops : List Stop) → All (λ k. k < length ts) entered → ShowsEntered ts sector entered (blind_picture name m groups ts labels a b sector entered stops)
 
 abbrev pub StopsAreShown : Type 0
-StopsAreShown = (name : List ℕ) (m : Map) (groups : List (List ℕ)) (ts : List Triangle) (labels : List (Option ℕ)) (a b sector : ℕ) (entered : List ℕ) (stops : List Stop) → ShowsStops stops (blind_picture name m groups ts labels a b sector entered stops)
+StopsAreShown = (name : NamedParts) (m : Map) (groups : List (List ℕ)) (ts : List Triangle) (labels : List (Option ℕ)) (a b sector : ℕ) (entered : List ℕ) (stops : List Stop) → ShowsStops stops (blind_picture name m groups ts labels a b sector entered stops)
 
 -- ---- marks
 
@@ -158,23 +160,23 @@ pub record ShowsMarks (marks : List ℕ) (picture : List Element) : Type 0 where
   pub once : (i j : ℕ) (ms ns : List ℕ) → slice_get picture i ≡ Some (Marked ms) → slice_get picture j ≡ Some (Marked ns) → i ≡ j
 
 abbrev pub MarksAreShown : Type 0
-MarksAreShown = (name : List ℕ) (m : Map) (left_out : ℕ) (marks : List ℕ) (faults : List FaultAt) (arrows : List Arrow) → ShowsMarks marks (marked_picture name m left_out marks faults arrows)
+MarksAreShown = (name : NamedParts) (m : Map) (left_out : ℕ) (marks : List ℕ) (faults : List FaultAt) (arrows : List Arrow) → ShowsMarks marks (marked_picture name m left_out marks faults arrows)
 
 -- a ring round each of these that is at one point, and no other
-pub record ShowsFaults (faults : List FaultAt) (picture : List Element) : Type 0 where
-  pub has : (a : FaultAt) (c : Pt) → Contains faults a → a.at ≡ Some c → Has picture (Fault a.fault c)
-  pub only : (what : PointFault) (c : Pt) → Has picture (Fault what c) → Contains faults (record { fault = what; at = Some c })
+pub record ShowsFaults (places : ℕ) (faults : List FaultAt) (picture : List Element) : Type 0 where
+  pub has : (a : FaultAt) (c : Pt) → Contains faults a → a.at ≡ Some c → Has picture (Fault places a.fault c)
+  pub only : (told : ℕ) (what : PointFault) (c : Pt) → Has picture (Fault told what c) → Contains faults (record { fault = what; at = Some c })
 
 abbrev pub FaultsAreShown : Type 0
-FaultsAreShown = (name : List ℕ) (m : Map) (left_out : ℕ) (marks : List ℕ) (faults : List FaultAt) (arrows : List Arrow) → ShowsFaults faults (marked_picture name m left_out marks faults arrows)
+FaultsAreShown = (name : NamedParts) (m : Map) (left_out : ℕ) (marks : List ℕ) (faults : List FaultAt) (arrows : List Arrow) → ShowsFaults name.places faults (marked_picture name m left_out marks faults arrows)
 
 -- each of these arrows, and no other
-pub record ShowsArrows (arrows : List Arrow) (picture : List Element) : Type 0 where
-  pub has : (w : Arrow) → Contains arrows w → Has picture (Out w)
-  pub only : (w : Arrow) → Has picture (Out w) → Contains arrows w
+pub record ShowsArrows (places : ℕ) (arrows : List Arrow) (picture : List Element) : Type 0 where
+  pub has : (w : Arrow) → Contains arrows w → Has picture (Out places w)
+  pub only : (told : ℕ) (w : Arrow) → Has picture (Out told w) → Contains arrows w
 
 abbrev pub ArrowsAreShown : Type 0
-ArrowsAreShown = (name : List ℕ) (m : Map) (left_out : ℕ) (marks : List ℕ) (faults : List FaultAt) (arrows : List Arrow) → ShowsArrows arrows (marked_picture name m left_out marks faults arrows)
+ArrowsAreShown = (name : NamedParts) (m : Map) (left_out : ℕ) (marks : List ℕ) (faults : List FaultAt) (arrows : List Arrow) → ShowsArrows name.places arrows (marked_picture name m left_out marks faults arrows)
 
 -- ---- rings
 
@@ -198,25 +200,37 @@ IdsAreOnce picture = (j k : ℕ) (e f : Element) → slice_get picture j ≡ Som
 
 -- In each kind of picture; so a line's id, which is its record number, is that of no other element. A map has fewer lines and groups.
 abbrev pub PlanIdsAreOnce : Type 0
-PlanIdsAreOnce = (name : List ℕ) (m : Map) (groups : List (List ℕ)) (ts : List Triangle) (labels : List (Option ℕ)) → length m.lines ≤ 2 ^ 64 → length groups ≤ 2 ^ 64 → IdsAreOnce (plan_picture name m groups ts labels)
+PlanIdsAreOnce = (name : NamedParts) (m : Map) (groups : List (List ℕ)) (ts : List Triangle) (labels : List (Option ℕ)) → length m.lines ≤ 2 ^ 64 → length groups ≤ 2 ^ 64 → IdsAreOnce (plan_picture name m groups ts labels)
 
 abbrev pub RowIdsAreOnce : Type 0
-RowIdsAreOnce = (name : List ℕ) (m : Map) (groups : List (List ℕ)) (ts : List Triangle) (labels : List (Option ℕ)) (t : TableParts) (a : ℕ) → length m.lines ≤ 2 ^ 64 → length groups ≤ 2 ^ 64 → IdsAreOnce (row_picture name m groups ts labels t a)
+RowIdsAreOnce = (name : NamedParts) (m : Map) (groups : List (List ℕ)) (ts : List Triangle) (labels : List (Option ℕ)) (t : TableParts) (a : ℕ) → length m.lines ≤ 2 ^ 64 → length groups ≤ 2 ^ 64 → IdsAreOnce (row_picture name m groups ts labels t a)
 
 abbrev pub SightIdsAreOnce : Type 0
-SightIdsAreOnce = (name : List ℕ) (m : Map) (groups : List (List ℕ)) (ts : List Triangle) (labels : List (Option ℕ)) (a b : ℕ) (r : Ray) → length m.lines ≤ 2 ^ 64 → length groups ≤ 2 ^ 64 → IdsAreOnce (sight_picture name m groups ts labels a b r)
+SightIdsAreOnce = (name : NamedParts) (m : Map) (groups : List (List ℕ)) (ts : List Triangle) (labels : List (Option ℕ)) (a b : ℕ) (r : Ray) → length m.lines ≤ 2 ^ 64 → length groups ≤ 2 ^ 64 → IdsAreOnce (sight_picture name m groups ts labels a b r)
 
 abbrev pub PairIdsAreOnce : Type 0
-PairIdsAreOnce = (name : List ℕ) (m : Map) (groups : List (List ℕ)) (ts : List Triangle) (labels : List (Option ℕ)) (a b : ℕ) → length m.lines ≤ 2 ^ 64 → length groups ≤ 2 ^ 64 → IdsAreOnce (pair_picture name m groups ts labels a b)
+PairIdsAreOnce = (name : NamedParts) (m : Map) (groups : List (List ℕ)) (ts : List Triangle) (labels : List (Option ℕ)) (a b : ℕ) → length m.lines ≤ 2 ^ 64 → length groups ≤ 2 ^ 64 → IdsAreOnce (pair_picture name m groups ts labels a b)
 
 abbrev pub MarkedIdsAreOnce : Type 0
-MarkedIdsAreOnce = (name : List ℕ) (m : Map) (left_out : ℕ) (marks : List ℕ) (faults : List FaultAt) (arrows : List Arrow) → length m.lines ≤ 2 ^ 64 → IdsAreOnce (marked_picture name m left_out marks faults arrows)
+MarkedIdsAreOnce = (name : NamedParts) (m : Map) (left_out : ℕ) (marks : List ℕ) (faults : List FaultAt) (arrows : List Arrow) → length m.lines ≤ 2 ^ 64 → IdsAreOnce (marked_picture name m left_out marks faults arrows)
 
 abbrev pub HeatIdsAreOnce : Type 0
-HeatIdsAreOnce = (name : List ℕ) (m : Map) (groups : List (List ℕ)) (ts : List Triangle) (labels : List (Option ℕ)) (count : List ℕ → ℕ) → length m.lines ≤ 2 ^ 64 → length groups ≤ 2 ^ 64 → IdsAreOnce (heat_picture name m groups ts labels (map count groups))
+HeatIdsAreOnce = (name : NamedParts) (m : Map) (groups : List (List ℕ)) (ts : List Triangle) (labels : List (Option ℕ)) (count : List ℕ → ℕ) → length m.lines ≤ 2 ^ 64 → length groups ≤ 2 ^ 64 → IdsAreOnce (heat_picture name m groups ts labels (map count groups))
 
 abbrev pub BlindIdsAreOnce : Type 0
-BlindIdsAreOnce = (name : List ℕ) (m : Map) (groups : List (List ℕ)) (ts : List Triangle) (labels : List (Option ℕ)) (a b sector : ℕ) (entered : List ℕ) (stops : List Stop) → length m.lines ≤ 2 ^ 64 → length groups ≤ 2 ^ 64 → IdsAreOnce (blind_picture name m groups ts labels a b sector entered stops)
+BlindIdsAreOnce = (name : NamedParts) (m : Map) (groups : List (List ℕ)) (ts : List Triangle) (labels : List (Option ℕ)) (a b sector : ℕ) (entered : List ℕ) (stops : List Stop) → length m.lines ≤ 2 ^ 64 → length groups ≤ 2 ^ 64 → IdsAreOnce (blind_picture name m groups ts labels a b sector entered stops)
+
+-- ---- the scale
+
+-- The number that is told is the length of the bar in map units, 10 ^ places of the map's own: it is exact, and where it isn't whole it
+-- has one digit that isn't 0. The bar is at most a fourth of the map's width.
+pub record IsScaleOf (width places : ℕ) (b : Bar) : Type 0 where
+  pub exact : b.length * 10 ^ b.behind ≡ b.steps * 10 ^ places
+  pub short : b.length ≤ width / 4
+  pub digit : (b.behind ≡ 0) ⊎ (b.steps < 10)
+
+abbrev pub ScaleIsTold : Type 0
+ScaleIsTold = (width places : ℕ) → IsScaleOf width places (bar_for width places)
 
 -- ---- places
 

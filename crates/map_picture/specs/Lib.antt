@@ -1,4 +1,5 @@
 pub mod Frame
+pub mod Scale
 pub mod Crossings
 pub mod Picture
 pub mod Bytes

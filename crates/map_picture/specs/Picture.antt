@@ -22,6 +22,11 @@ use Rattle.map_picture.specs.declared.sheet.Subject.TheVariants as subject
 use Rattle.map_picture.specs.declared.tint.Tint.{Tint}
 use Rattle.map_picture.specs.declared.tint.Tint.TheVariants as tint
 
+-- a map's name, and the decimal places of the unit in which its points are told
+pub record NamedParts : Type 0 where
+  pub text : List ℕ
+  pub places : ℕ
+
 pub data Element : Type 0 where
   -- the root, with its size
   Head : Element
@@ -31,8 +36,8 @@ pub data Element : Type 0 where
   Style : Element
   -- the ground
   Paper : Element
-  -- how long some units are
-  Scale : Element
+  -- how long some map units are, where points are told in units of the last of so many decimal places
+  Scale : ℕ → Element
   -- the triangles of a group, with its number and the sectors that it names
   Face : Tint → ℕ → List ℕ → List Triangle → Element
   -- a line, with its record number
@@ -45,10 +50,10 @@ pub data Element : Type 0 where
   Sight : Ray → MapLine → MapLine → Element
   -- the lines with these record numbers, marked
   Marked : List ℕ → Element
-  -- a ring round a point at which this is at fault
-  Fault : PointFault → Pt → Element
-  -- an arrow through a triangle at a torn corner
-  Out : Arrow → Element
+  -- a ring round a point at which this is at fault; points are told in units of the last of so many decimal places
+  Fault : ℕ → PointFault → Pt → Element
+  -- an arrow through a triangle at a torn corner, with the places too
+  Out : ℕ → Arrow → Element
   -- a ring with this letter in the middle of a triangle of this sector
   Ring : Letter → ℕ → Triangle → Element
   -- which counts each shade stands for, up to the greatest one
@@ -126,11 +131,11 @@ ring_of m groups ts labels which sector = ring_at which sector (largest_of m gro
 -- ---- the pictures
 
 -- what each picture begins with
-abbrev pub sheet_of : List ℕ → Subject → List Element
-sheet_of name about = Head ∷ Title name about ∷ Style ∷ Paper ∷ Scale ∷ []
+abbrev pub sheet_of : NamedParts → Subject → List Element
+sheet_of name about = Head ∷ Title name.text about ∷ Style ∷ Paper ∷ Scale name.places ∷ []
 
 -- The lines of the map on paper, with further elements under them and over them.
-abbrev pub picture_of : List ℕ → Subject → Map → List Element → List Element → List Element
+abbrev pub picture_of : NamedParts → Subject → Map → List Element → List Element → List Element
 picture_of name about m under over = sheet_of name about ++ under ++ line_elements m ++ over ++ Foot ∷ []
 
 -- the faces of all groups, of which nothing is told
@@ -138,24 +143,24 @@ abbrev pub plan_faces : List (List ℕ) → List Triangle → List (Option ℕ) 
 plan_faces groups ts labels = faces_from ts labels 0 (map (λ names. tint.Other) groups) groups
 
 -- the plan alone
-abbrev pub plan_picture : List ℕ → Map → List (List ℕ) → List Triangle → List (Option ℕ) → List Element
+abbrev pub plan_picture : NamedParts → Map → List (List ℕ) → List Triangle → List (Option ℕ) → List Element
 plan_picture name m groups ts labels = picture_of name subject.Plan m (plan_faces groups ts labels) []
 
 -- what is at fault, if it is at one point
-abbrev pub fault_if : PointFault → Option Pt → List Element
-fault_if what None = []
-fault_if what (Some c) = Fault what c ∷ []
+abbrev pub fault_if : ℕ → PointFault → Option Pt → List Element
+fault_if places what None = []
+fault_if places what (Some c) = Fault places what c ∷ []
 
-abbrev pub faults_from : List FaultAt → List Element
-faults_from faults = flat_map (λ (a : FaultAt). fault_if a.fault a.at) faults
+abbrev pub faults_from : ℕ → List FaultAt → List Element
+faults_from places faults = flat_map (λ (a : FaultAt). fault_if places a.fault a.at) faults
 
-abbrev pub arrows_from : List Arrow → List Element
-arrows_from arrows = map (λ (w : Arrow). Out w) arrows
+abbrev pub arrows_from : ℕ → List Arrow → List Element
+arrows_from places arrows = map (λ (w : Arrow). Out places w) arrows
 
 -- the plan without faces, with marks over the lines with these record numbers, rings round points at fault, and arrows; so many
 -- clashes are left out
-abbrev pub marked_picture : List ℕ → Map → ℕ → List ℕ → List FaultAt → List Arrow → List Element
-marked_picture name m left_out marks faults arrows = picture_of name (subject.Faults left_out) m [] (Marked marks ∷ faults_from faults ++ arrows_from arrows)
+abbrev pub marked_picture : NamedParts → Map → ℕ → List ℕ → List FaultAt → List Arrow → List Element
+marked_picture name m left_out marks faults arrows = picture_of name (subject.Faults left_out) m [] (Marked marks ∷ faults_from name.places faults ++ arrows_from name.places arrows)
 
 -- what the table's row of sector a says of a group: set only if it is so for each sector that the group names
 abbrev pub row_tint : TableParts → ℕ → List ℕ → Tint
@@ -165,7 +170,7 @@ row_tint t a names =
     else tint.Clear
 
 -- the row of sector a in a table, over the groups of the map
-abbrev pub row_picture : List ℕ → Map → List (List ℕ) → List Triangle → List (Option ℕ) → TableParts → ℕ → List Element
+abbrev pub row_picture : NamedParts → Map → List (List ℕ) → List Triangle → List (Option ℕ) → TableParts → ℕ → List Element
 row_picture name m groups ts labels t a = picture_of name (subject.Row a) m (faces_from ts labels 0 (map (row_tint t a) groups) groups) (ring_of m groups ts labels letter.A a)
 
 -- ---- how much is seen
@@ -183,7 +188,7 @@ abbrev pub heat_tints : List ℕ → ℕ → List Tint
 heat_tints counts most = map (λ count. tint.Heat count most) counts
 
 -- each group by a count
-abbrev pub heat_picture : List ℕ → Map → List (List ℕ) → List Triangle → List (Option ℕ) → List ℕ → List Element
+abbrev pub heat_picture : NamedParts → Map → List (List ℕ) → List Triangle → List (Option ℕ) → List ℕ → List Element
 heat_picture name m groups ts labels counts = picture_of name subject.Heat m (faces_from ts labels 0 (heat_tints counts (most_of counts)) groups) (Legend (most_of counts) ∷ [])
 
 -- ---- a pair of sectors
@@ -200,7 +205,7 @@ abbrev pub pair_rings : Map → List (List ℕ) → List Triangle → List (Opti
 pair_rings m groups ts labels a b = ring_of m groups ts labels letter.A a ++ ring_of m groups ts labels letter.B b
 
 -- the plan with the faces of two sectors
-abbrev pub pair_picture : List ℕ → Map → List (List ℕ) → List Triangle → List (Option ℕ) → ℕ → ℕ → List Element
+abbrev pub pair_picture : NamedParts → Map → List (List ℕ) → List Triangle → List (Option ℕ) → ℕ → ℕ → List Element
 pair_picture name m groups ts labels a b = picture_of name (subject.Pair a b) m (pair_faces groups ts labels a b) (pair_rings m groups ts labels a b)
 
 -- the triangles with these numbers
@@ -208,7 +213,7 @@ abbrev pub numbered : List Triangle → List ℕ → List Triangle
 numbered ts entered = map (λ k. slice_index_or ts k (record { p = 0; q = 0; r = 0 })) entered
 
 -- two sectors of which none sees the other: the triangles that sight out of this sector enters, and where it ends
-abbrev pub blind_picture : List ℕ → Map → List (List ℕ) → List Triangle → List (Option ℕ) → ℕ → ℕ → ℕ → List ℕ → List Stop → List Element
+abbrev pub blind_picture : NamedParts → Map → List (List ℕ) → List Triangle → List (Option ℕ) → ℕ → ℕ → ℕ → List ℕ → List Stop → List Element
 blind_picture name m groups ts labels a b sector entered stops =
     picture_of name (subject.Pair a b) m (pair_faces groups ts labels a b ++ Entered sector (numbered ts entered) ∷ []) (Stops stops ∷ [] ++ pair_rings m groups ts labels a b)
 
@@ -227,5 +232,5 @@ abbrev pub JoinsSectors : Map → Ray → Type 0
 JoinsSectors m r = (f : ℕ) × (k : ℕ) × IsSightRay m r f k
 
 -- two sectors that see each other along the ray
-abbrev pub sight_picture : List ℕ → Map → List (List ℕ) → List Triangle → List (Option ℕ) → ℕ → ℕ → Ray → List Element
+abbrev pub sight_picture : NamedParts → Map → List (List ℕ) → List Triangle → List (Option ℕ) → ℕ → ℕ → Ray → List Element
 sight_picture name m groups ts labels a b r = picture_of name (subject.Pair a b) m (pair_faces groups ts labels a b) (sight_elements m r ++ pair_rings m groups ts labels a b)

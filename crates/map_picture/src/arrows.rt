@@ -103,33 +103,39 @@ fn push_shape(out: &mut Vec<u8>, frame: Frame, corners: Corners) -> Result<(), A
 
 /// The torn corner as a title, which ends the path.
 #[tactic(auto, unfolding(crate::specs::Bytes::arrow_title))]
-fn push_title(out: &mut Vec<u8>, at: Pt) -> Result<(), AllocError>
-    ensures { OnOk result (out.new.items ≡ out.old.items ++ arrow_title at) }
+fn push_title(out: &mut Vec<u8>, places: u8, at: Pt) -> Result<(), AllocError>
+    ensures { OnOk result (out.new.items ≡ out.old.items ++ arrow_title places at) }
 {
     push_text(out, "z\"><title>out round the torn corner")?;
-    push_place(out, at)?;
+    push_place(out, places, at)?;
     push_text(out, "</title></path>\n")
 }
 
 #[tactic(auto, unfolding(crate::specs::Bytes::arrow_text))]
-fn push_corners(out: &mut Vec<u8>, frame: Frame, corners: Corners) -> Result<(), AllocError>
-    ensures { OnOk result (out.new.items ≡ out.old.items ++ arrow_text frame corners) }
+fn push_corners(
+    out: &mut Vec<u8>,
+    frame: Frame,
+    places: u8,
+    corners: Corners,
+) -> Result<(), AllocError>
+    ensures { OnOk result (out.new.items ≡ out.old.items ++ arrow_text frame places corners) }
 {
     push_shape(out, frame, corners)?;
-    push_title(out, corners.point)
+    push_title(out, places, corners.point)
 }
 
 /// The arrows.
 pub fn push_arrows(
     out: &mut Vec<u8>,
     frame: Frame,
+    places: u8,
     plan: &Plan,
     arrows: &[Arrow],
 ) -> Result<(), AllocError>
-    ensures { OnOk result (out.new.items ≡ out.old.items ++ arrow_texts frame plan.now.points arrows.now) }
+    ensures { OnOk result (out.new.items ≡ out.old.items ++ arrow_texts frame places plan.now.points arrows.now) }
 {
     for arrow in arrows {
-        push_corners(out, frame, corners_of(plan, *arrow))?;
+        push_corners(out, frame, places, corners_of(plan, *arrow))?;
     }
     Ok(())
 }

@@ -1,4 +1,4 @@
-//! Where a ray crosses a line, in thousandths of map units.
+//! Where a ray crosses a line, in thousandths of the map's own unit.
 
 ghost use Rattle.std.specs.Prelude.{◌≡◌, ◌<◌, ◌≤◌, ◌+◌, ◌*◌, ◌^◌, unsigned_abs};
 ghost use Rattle.sight_names.specs.Ray.{IsInRange};
@@ -9,7 +9,7 @@ use crate::frame::{Frame, across, down};
 use geom_exact::side_of;
 use sight_names::{Pt, Ray};
 
-/// A place in a picture: how far it is from the left edge and below the upper one, in thousandths of map units, cut down.
+/// A place in a picture: how far it is from the left edge and below the upper one, in thousandths of the map's own unit, cut down.
 #[derive(Clone, Copy)]
 pub struct Spot {
     pub across: u128,

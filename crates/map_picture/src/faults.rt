@@ -4,8 +4,8 @@ ghost use Rattle.std.specs.Prelude.{◌≡◌, ◌++◌, OnOk};
 ghost use Rattle.map_picture.specs.Bytes.{clash_text, coordinate_text, fault_at_text, fault_place_text, fault_radius as the_fault_radius, fault_shape, fault_text, fault_texts, fault_title, fault_words, place_text};
 
 use crate::frame::{Frame, across, down, sizes_of};
-use crate::pair::push_integer;
 use crate::rings::push_circle;
+use crate::units::push_in_units;
 use crate::words::{push_count, push_text};
 use sight_names::{LineFault, Pt};
 use std::alloc::AllocError;
@@ -50,29 +50,29 @@ fn push_words(out: &mut Vec<u8>, fault: PointFault) -> Result<(), AllocError>
 }
 
 #[tactic(auto, unfolding(crate::specs::Bytes::coordinate_text))]
-fn push_coordinate(out: &mut Vec<u8>, word: &str, n: i32) -> Result<(), AllocError>
-    ensures { OnOk result (out.new.items ≡ out.old.items ++ coordinate_text word.now n) }
+fn push_coordinate(out: &mut Vec<u8>, places: u8, word: &str, n: i32) -> Result<(), AllocError>
+    ensures { OnOk result (out.new.items ≡ out.old.items ++ coordinate_text places word.now n) }
 {
     push_text(out, word)?;
-    push_integer(out, n as i64)
+    push_in_units(out, places, n)
 }
 
-/// Where it is, by the coordinates that the map has.
+/// Where it is, in map units.
 #[tactic(auto, unfolding(crate::specs::Bytes::place_text))]
-pub fn push_place(out: &mut Vec<u8>, at: Pt) -> Result<(), AllocError>
-    ensures { OnOk result (out.new.items ≡ out.old.items ++ place_text at) }
+pub fn push_place(out: &mut Vec<u8>, places: u8, at: Pt) -> Result<(), AllocError>
+    ensures { OnOk result (out.new.items ≡ out.old.items ++ place_text places at) }
 {
-    push_coordinate(out, " at ", at.x)?;
-    push_coordinate(out, ", ", at.y)
+    push_coordinate(out, places, " at ", at.x)?;
+    push_coordinate(out, places, ", ", at.y)
 }
 
 #[tactic(auto, unfolding(crate::specs::Bytes::fault_title))]
-fn push_title(out: &mut Vec<u8>, fault: PointFault, at: Pt) -> Result<(), AllocError>
-    ensures { OnOk result (out.new.items ≡ out.old.items ++ fault_title fault at) }
+fn push_title(out: &mut Vec<u8>, places: u8, fault: PointFault, at: Pt) -> Result<(), AllocError>
+    ensures { OnOk result (out.new.items ≡ out.old.items ++ fault_title places fault at) }
 {
     push_text(out, "<g><title>")?;
     push_words(out, fault)?;
-    push_place(out, at)?;
+    push_place(out, places, at)?;
     push_text(out, "</title>")
 }
 
@@ -98,30 +98,41 @@ fn radius_of(margin: u64, fault: PointFault) -> u64
 }
 
 /// A ring round the point.
-fn push_ring(out: &mut Vec<u8>, frame: Frame, fault: PointFault, at: Pt) -> Result<(), AllocError>
-    ensures { OnOk result (out.new.items ≡ out.old.items ++ fault_text frame fault at) }
+fn push_ring(
+    out: &mut Vec<u8>,
+    frame: Frame,
+    places: u8,
+    fault: PointFault,
+    at: Pt,
+) -> Result<(), AllocError>
+    ensures { OnOk result (out.new.items ≡ out.old.items ++ fault_text frame places fault at) }
 {
     let radius = radius_of(sizes_of(frame).margin, fault);
-    push_title(out, fault, at)?;
+    push_title(out, places, fault, at)?;
     push_shape(out, across(frame, at), down(frame, at), radius)
 }
 
 /// .. if there is one.
-fn push_fault(out: &mut Vec<u8>, frame: Frame, one: FaultAt) -> Result<(), AllocError>
-    ensures { OnOk result (out.new.items ≡ out.old.items ++ fault_at_text frame one) }
+fn push_fault(out: &mut Vec<u8>, frame: Frame, places: u8, one: FaultAt) -> Result<(), AllocError>
+    ensures { OnOk result (out.new.items ≡ out.old.items ++ fault_at_text frame places one) }
 {
     match one.at {
-        Some(at) => push_ring(out, frame, one.fault, at),
+        Some(at) => push_ring(out, frame, places, one.fault, at),
         None => Ok(()),
     }
 }
 
 /// A ring for each of these that is at one point.
-pub fn push_faults(out: &mut Vec<u8>, frame: Frame, faults: &[FaultAt]) -> Result<(), AllocError>
-    ensures { OnOk result (out.new.items ≡ out.old.items ++ fault_texts frame faults.now) }
+pub fn push_faults(
+    out: &mut Vec<u8>,
+    frame: Frame,
+    places: u8,
+    faults: &[FaultAt],
+) -> Result<(), AllocError>
+    ensures { OnOk result (out.new.items ≡ out.old.items ++ fault_texts frame places faults.now) }
 {
     for one in faults {
-        push_fault(out, frame, *one)?;
+        push_fault(out, frame, places, *one)?;
     }
     Ok(())
 }

@@ -2,11 +2,11 @@
 
 ghost use Rattle.std.specs.Prelude.{◌≡◌, ◌^◌, ◌<◌, ◌≤◌};
 ghost use Rattle.std.specs.Int.{int_max, int_min};
-ghost use Rattle.map_picture.specs.Frame.{across as the_across, down as the_down, frame_of as the_frame_of, grain_for as the_grain_for, height_of, scale_for as the_scale_for, sizes_for as the_sizes_for, sizes_of as the_sizes_of, widened as widened_of, widened_by as the_widened_by, width_of};
+ghost use Rattle.map_picture.specs.Frame.{across as the_across, down as the_down, frame_of as the_frame_of, height_of, sizes_for as the_sizes_for, sizes_of as the_sizes_of, widened as widened_of, widened_by as the_widened_by, width_of};
 
 use sight_names::Pt;
 
-/// The least and greatest coordinates of the points, in map units.
+/// The least and greatest coordinates of the points, in the map's own unit.
 #[derive(Clone, Copy, PartialEq, Eq)]
 pub struct Frame {
     pub left: i32,
@@ -71,7 +71,7 @@ pub fn frame_of(points: &[Pt]) -> Frame
 }
 
 /// From the left to the right.
-fn width(frame: Frame) -> u64
+pub fn width(frame: Frame) -> u64
     ensures width { result ≡ width_of frame }
     ensures short { result < 2 ^ 32 }
 {
@@ -86,7 +86,7 @@ fn height(frame: Frame) -> u64
     u64::from(frame.top.abs_diff(frame.bottom))
 }
 
-/// The sizes of a picture, in map units, and its sides in pixels.
+/// The sizes of a picture, in the map's own unit, and its sides in pixels.
 #[derive(Clone, Copy)]
 pub struct Sizes {
     /// What is left free on each side of the map.
@@ -97,36 +97,8 @@ pub struct Sizes {
     pub high: u64,
     pub wide_pixels: u64,
     pub high_pixels: u64,
-    /// How long the scale is.
-    pub scale: u64,
     /// How far below the upper edge the strip's middle is, in which the scale lies.
     pub strip: u64,
-}
-
-/// What the length of a scale of about so many units is a multiple of.
-fn grain_for(length: u64) -> u64
-    ensures grain { result ≡ the_grain_for length }
-    ensures some { 0 < result }
-{
-    if length >= 1024 {
-        1024
-    } else if length >= 128 {
-        128
-    } else if length >= 16 {
-        16
-    } else {
-        1
-    }
-}
-
-/// How long the scale of a picture of this width is.
-fn scale_for(width: u64) -> u64
-    requires { width < 2 ^ 32 }
-    ensures { result ≡ the_scale_for width }
-{
-    let quarter = width / 4;
-    let grain = grain_for(quarter);
-    quarter / grain * grain
 }
 
 fn sizes_for(width: u64, height: u64) -> Sizes
@@ -147,7 +119,6 @@ fn sizes_for(width: u64, height: u64) -> Sizes
         high,
         wide_pixels: 1000 * wide / (longer + around),
         high_pixels: 1000 * high / (longer + around),
-        scale: scale_for(width),
         strip: height + around,
     }
 }

@@ -1,6 +1,6 @@
 //! What pictures show, by their definition. The calls do nothing: their clauses are laws.
 
-ghost use Rattle.map_picture.specs.Laws.{ArrowsAreShown, BlindFacesAreShown, BlindIdsAreOnce, EnteredIsShown, FaultsAreShown, HeatIdsAreOnce, HeatIsShown, LinesAreShown, MarkedIdsAreOnce, MarksAreShown, PairFacesAreShown, PairIdsAreOnce, PlanFacesAreShown, PlanIdsAreOnce, PointsAreReadBack, RayIsDrawn, RingsAreInside, RowIdsAreOnce, RowIsShown, SightFacesAreShown, SightIdsAreOnce, StopsAreShown};
+ghost use Rattle.map_picture.specs.Laws.{ArrowsAreShown, BlindFacesAreShown, BlindIdsAreOnce, EnteredIsShown, FaultsAreShown, HeatIdsAreOnce, HeatIsShown, LinesAreShown, MarkedIdsAreOnce, MarksAreShown, PairFacesAreShown, PairIdsAreOnce, PlanFacesAreShown, PlanIdsAreOnce, PointsAreReadBack, RayIsDrawn, RingsAreInside, RowIdsAreOnce, RowIsShown, ScaleIsTold, SightFacesAreShown, SightIdsAreOnce, StopsAreShown};
 
 /// Every picture of a map has its lines, each once, and no other line.
 pub fn lines_are_shown()
@@ -46,7 +46,7 @@ pub fn pair_is_shown()
     ensures blind { BlindFacesAreShown }
 {}
 
-/// The picture of two sectors that see each other has the ray once. Of each of its two spots, in thousandths of map units, the
+/// The picture of two sectors that see each other has the ray once. Of each of its two spots, in thousandths of the map's own unit, the
 /// distances from the left edge and from the upper one are those of the exact crossing, cut down: a spot is never to the right of
 /// the crossing or below it, and less than a thousandth from it each way.
 pub fn ray_is_drawn()
@@ -73,6 +73,11 @@ pub fn faults_are_shown()
 /// .. and just the arrows that it was given.
 pub fn arrows_are_shown()
     ensures { ArrowsAreShown }
+{}
+
+/// The number beside a picture's scale is the length of the bar in map units.
+pub fn scale_is_told()
+    ensures { ScaleIsTold }
 {}
 
 /// The coordinates of each point of a map can be read back from a picture.

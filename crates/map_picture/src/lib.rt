@@ -12,11 +12,14 @@ mod laws;
 mod legend;
 mod lines;
 mod marks;
+mod named;
 mod pair;
 mod picture;
 mod rings;
+mod scale;
 mod sheet;
 mod tint;
+mod units;
 mod words;
 
 pub use arrows::Arrow;
@@ -24,8 +27,9 @@ pub use faults::{FaultAt, PointFault};
 pub use laws::{
     arrows_are_shown, entered_is_shown, faults_are_shown, heat_is_shown, ids_are_once,
     lines_are_shown, marks_are_shown, pair_is_shown, plan_is_shown, points_are_read_back,
-    ray_is_drawn, rings_are_inside, row_is_shown,
+    ray_is_drawn, rings_are_inside, row_is_shown, scale_is_told,
 };
+pub use named::Named;
 pub use pair::Stop;
 pub use picture::{
     blind_picture, heat_picture, marked_picture, pair_picture, plan_picture, row_picture,

@@ -115,7 +115,7 @@ pub fn push_stops(
 }
 
 /// A number in decimal.
-pub fn push_integer<I: Integer>(out: &mut Vec<u8>, n: I) -> Result<(), AllocError>
+fn push_integer<I: Integer>(out: &mut Vec<u8>, n: I) -> Result<(), AllocError>
     ensures { OnOk result (out.new.items ≡ out.old.items ++ I.text n) }
 {
     let mut buffer = Buffer::new();

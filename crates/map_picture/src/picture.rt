@@ -2,7 +2,7 @@
 
 ghost use Rattle.std.specs.Prelude.{◌≡◌, ◌<◌, ◌++◌, All, IfOk, OnOk, length};
 ghost use Rattle.sight_names.specs.Map.{map_of};
-ghost use Rattle.map_picture.specs.Bytes.{spelled, svg_of};
+ghost use Rattle.map_picture.specs.Bytes.{arrow_texts, fault_texts, spelled, svg_of};
 ghost use Rattle.map_picture.specs.declared.sheet.Subject.TheVariants as subject;
 ghost use Rattle.map_picture.specs.Picture.{JoinsSectors, faces_from, pair_faces as the_pair_faces, pair_rings, sheet_of, blind_picture as the_blind_picture, heat_picture as the_heat_picture, marked_picture as the_marked_picture, pair_picture as the_pair_picture, plan_picture as the_plan_picture, row_picture as the_row_picture, sight_picture as the_sight_picture};
 
@@ -14,6 +14,7 @@ use crate::frame::{Frame, frame_of, sizes_of};
 use crate::legend::push_legend;
 use crate::lines::push_lines;
 use crate::marks::push_marks;
+use crate::named::Named;
 use crate::pair::{Stop, push_entered, push_sight, push_stops};
 use crate::rings::{Letter, push_ring_of};
 use crate::sheet::{Subject, push_foot, push_sheet};
@@ -27,7 +28,7 @@ use std::alloc::{AllocError, Global};
 fn ground(
     alloc: Global,
     frame: Frame,
-    name: &str,
+    name: &Named<'_>,
     about: Subject,
     plan: &Plan,
     mesh: &Mesh,
@@ -60,7 +61,7 @@ fn ground(
 /// The plan alone.
 pub fn plan_picture(
     alloc: Global,
-    name: &str,
+    name: &Named<'_>,
     plan: &Plan,
     mesh: &Mesh,
     labels: &Labels,
@@ -88,11 +89,36 @@ pub fn plan_picture(
     Ok(out)
 }
 
+/// A ring for each of these that is at one point, its title in map units.
+fn push_named_faults(
+    out: &mut Vec<u8>,
+    frame: Frame,
+    name: &Named<'_>,
+    faults: &[FaultAt],
+) -> Result<(), AllocError>
+    ensures { OnOk result (out.new.items ≡ out.old.items ++ fault_texts frame name.now.places faults.now) }
+{
+    push_faults(out, frame, name.places, faults)
+}
+
+/// The arrows, their titles in map units.
+fn push_named_arrows(
+    out: &mut Vec<u8>,
+    frame: Frame,
+    name: &Named<'_>,
+    plan: &Plan,
+    arrows: &[Arrow],
+) -> Result<(), AllocError>
+    ensures { OnOk result (out.new.items ≡ out.old.items ++ arrow_texts frame name.now.places plan.now.points arrows.now) }
+{
+    push_arrows(out, frame, name.places, plan, arrows)
+}
+
 /// The plan, with marks over the lines with these record numbers, rings round points at fault, and arrows. So many clashes are left
 /// out.
 pub fn marked_picture(
     alloc: Global,
-    name: &str,
+    name: &Named<'_>,
     plan: &Plan,
     left_out: u64,
     marks: &[u16],
@@ -106,8 +132,8 @@ pub fn marked_picture(
     push_sheet(&mut out, frame, name, Subject::Faults(left_out))?;
     push_lines(&mut out, frame, plan)?;
     push_marks(&mut out, frame, plan, marks)?;
-    push_faults(&mut out, frame, faults)?;
-    push_arrows(&mut out, frame, plan, arrows)?;
+    push_named_faults(&mut out, frame, name, faults)?;
+    push_named_arrows(&mut out, frame, name, plan, arrows)?;
     push_foot(&mut out)?;
     Ok(out)
 }
@@ -115,7 +141,7 @@ pub fn marked_picture(
 /// The plan, with each face painted as the table's row of sector `a` has the sectors of its group.
 pub fn row_picture(
     alloc: Global,
-    name: &str,
+    name: &Named<'_>,
     plan: &Plan,
     mesh: &Mesh,
     labels: &Labels,
@@ -160,7 +186,7 @@ pub fn row_picture(
 /// The plan, with each face painted by its group's count.
 pub fn heat_picture(
     alloc: Global,
-    name: &str,
+    name: &Named<'_>,
     plan: &Plan,
     mesh: &Mesh,
     labels: &Labels,
@@ -196,7 +222,7 @@ pub fn heat_picture(
 fn pair_ground(
     alloc: Global,
     frame: Frame,
-    name: &str,
+    name: &Named<'_>,
     plan: &Plan,
     mesh: &Mesh,
     labels: &Labels,
@@ -237,7 +263,7 @@ fn push_rings(
 /// The plan with the faces of two sectors.
 pub fn pair_picture(
     alloc: Global,
-    name: &str,
+    name: &Named<'_>,
     plan: &Plan,
     mesh: &Mesh,
     labels: &Labels,
@@ -259,7 +285,7 @@ pub fn pair_picture(
 /// The plan with the faces of two sectors that see each other, and with the ray along which they do.
 pub fn sight_picture(
     alloc: Global,
-    name: &str,
+    name: &Named<'_>,
     plan: &Plan,
     mesh: &Mesh,
     labels: &Labels,
@@ -285,7 +311,7 @@ pub fn sight_picture(
 /// of this sector enters, and the segments at which it ends. The caller knows which these are.
 pub fn blind_picture(
     alloc: Global,
-    name: &str,
+    name: &Named<'_>,
     plan: &Plan,
     mesh: &Mesh,
     labels: &Labels,

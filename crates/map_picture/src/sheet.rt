@@ -1,13 +1,17 @@
 //! The first elements of a picture.
 
-ghost use Rattle.std.specs.Prelude.{◌≡◌, ◌≤◌, ◌<◌, ◌^◌, ◌++◌, ◌∷◌, [], OnOk, codes};
+ghost use Rattle.std.specs.Prelude.{◌≡◌, ◌≤◌, ◌<◌, ◌^◌, ◌++◌, ◌∷◌, [], OnOk, codes, replicate};
 ghost use Rattle.sight_names.specs.Map.{Map};
 ghost use Rattle.map_picture.specs.declared.frame.Frame.{Frame};
-ghost use Rattle.map_picture.specs.Bytes.{count_text, dark_text, head_text, left_out_text, left_out_words, letters_text, light_text, paper_text, pixels_text, scale_text, shades_text, size_text, spelled, style_text, subject_text, title_text, units_text};
+ghost use Rattle.map_picture.specs.Bytes.{count_text, dark_text, head_text, left_out_text, left_out_words, letters_text, light_text, paper_text, pixels_text, scale_text, shades_text, size_text, spelled, style_text, subject_text, tenths_text, title_text, told_text, units_text};
+ghost use Rattle.map_picture.specs.Frame.{width_of};
 ghost use Rattle.map_picture.specs.Picture.{Foot, sheet_of};
+ghost use Rattle.map_picture.specs.Scale.{bar_for as the_bar_for};
 
-use crate::frame::{Frame, Sizes, sizes_of};
-use crate::words::{push_count, push_escaped, push_text, push_written};
+use crate::frame::{Frame, Sizes, sizes_of, width};
+use crate::named::Named;
+use crate::scale::{Bar, bar_for};
+use crate::words::{push_count, push_escaped, push_number, push_text, push_written};
 use std::alloc::AllocError;
 
 #[tactic(auto, unfolding(crate::specs::Bytes::size_text))]
@@ -194,39 +198,90 @@ fn push_paper(out: &mut Vec<u8>, sizes: Sizes) -> Result<(), AllocError>
     push_text(out, "\"/>\n")
 }
 
-/// A bar from below the map's left edge, and behind it how long it is.
+fn push_zeros(out: &mut Vec<u8>, count: u8) -> Result<(), AllocError>
+    ensures { OnOk result (out.new.items ≡ out.old.items ++ replicate count 48) }
+{
+    let mut left = count;
+    while left > 0 {
+        push_text(out, "0")?;
+        left -= 1;
+    }
+    Ok(())
+}
+
+/// So many of the last of some decimal places.
+#[tactic(auto, unfolding(crate::specs::Bytes::tenths_text))]
+fn push_tenths(out: &mut Vec<u8>, count: u64, behind: u8) -> Result<(), AllocError>
+    ensures { OnOk result (out.new.items ≡ out.old.items ++ tenths_text count behind) }
+{
+    push_text(out, "0.")?;
+    push_zeros(out, behind.saturating_sub(1))?;
+    push_number(out, count)
+}
+
+/// How long a bar is in map units.
+fn push_told(out: &mut Vec<u8>, bar: Bar) -> Result<(), AllocError>
+    ensures { OnOk result (out.new.items ≡ out.old.items ++ told_text bar) }
+{
+    if bar.behind == 0 || bar.steps == 0 {
+        push_number(out, bar.steps)
+    } else {
+        push_tenths(out, bar.steps, bar.behind)
+    }
+}
+
+/// A bar from below the map's left edge, and behind it how long it is in map units.
 #[tactic(auto, unfolding(crate::specs::Bytes::scale_text))]
-fn push_scale(out: &mut Vec<u8>, sizes: Sizes) -> Result<(), AllocError>
-    ensures { OnOk result (out.new.items ≡ out.old.items ++ scale_text sizes) }
+fn push_scale(out: &mut Vec<u8>, sizes: Sizes, bar: Bar) -> Result<(), AllocError>
+    ensures { OnOk result (out.new.items ≡ out.old.items ++ scale_text sizes bar) }
 {
     push_count(out, "<path class=\"u\" d=\"M0 ", sizes.strip)?;
-    push_count(out, "H", sizes.scale)?;
+    push_count(out, "H", bar.length)?;
     push_written(
         out,
         "\"/>",
-        sizes.scale,
+        bar.length,
         sizes.strip,
         "\" dx=\".6em\" dy=\".36em\" class=\"n\">",
     )?;
-    push_count(out, "", sizes.scale)?;
+    push_told(out, bar)?;
     push_text(out, "</text>\n")
+}
+
+/// The title of a picture of a map with this name.
+fn push_named_title(out: &mut Vec<u8>, name: &Named<'_>, about: Subject) -> Result<(), AllocError>
+    ensures { OnOk result (out.new.items ≡ out.old.items ++ title_text name.now.text about) }
+{
+    push_title(out, name.text, about)
+}
+
+/// The scale of a picture with this frame.
+fn push_named_scale(
+    out: &mut Vec<u8>,
+    frame: Frame,
+    name: &Named<'_>,
+    sizes: Sizes,
+) -> Result<(), AllocError>
+    ensures { OnOk result (out.new.items ≡ out.old.items ++ scale_text sizes (the_bar_for (width_of frame) name.now.places)) }
+{
+    push_scale(out, sizes, bar_for(width(frame), name.places))
 }
 
 /// What a picture with this frame begins with.
 pub fn push_sheet(
     out: &mut Vec<u8>,
     frame: Frame,
-    name: &str,
+    name: &Named<'_>,
     about: Subject,
 ) -> Result<(), AllocError>
     ensures { (m : Map) → OnOk result (out.new.items ≡ out.old.items ++ spelled frame m (sheet_of name.now about)) }
 {
     let sizes = sizes_of(frame);
     push_head(out, sizes)?;
-    push_title(out, name, about)?;
+    push_named_title(out, name, about)?;
     push_style(out, sizes)?;
     push_paper(out, sizes)?;
-    push_scale(out, sizes)
+    push_named_scale(out, frame, name, sizes)
 }
 
 /// The end of a picture.
