@@ -45,10 +45,10 @@ STYLE = ("path,circle{fill:none;stroke-linecap:round}.w,.u,.o{stroke:#000}.p{str
 
 
 class Sheet:
-    """The texts of a picture of a map, as docs/FORMATS.md has them."""
+    """The texts of a picture of a map, as docs/FORMATS.md has them, whose unit is the last of so many decimal places."""
 
-    def __init__(self, name, plan):
-        self.name, self.plan = name, plan
+    def __init__(self, name, plan, places=0):
+        self.name, self.plan, self.places = name, plan, places
         xs, ys = zip(*plan.points)
         self.west, self.north = min(xs), max(ys)
         self.width, self.height = max(xs) - self.west, self.north - min(ys)
@@ -65,10 +65,25 @@ class Sheet:
         yield "<title>%s%s</title>" % (self.name.replace("&", "&amp;").replace("<", "&lt;"), about)
         yield "<style>%s</style>" % (STYLE % (s, 2 * s, 3 * s, 4 * s, 6 * s, self.margin, self.margin // 4))
         yield '<rect class="paper" fill="#fff" x="-%d" y="-%d" width="%d" height="%d"/>' % size
-        quarter = self.width // 4
-        length = next(quarter // grain * grain for grain in (1024, 128, 16, 1) if quarter >= grain or grain == 1)
+        length, told = self.bar()
         yield ('<path class="u" d="M0 %d' % self.strip + 'H%d"/>' % length
-               + self.text(length, self.strip, 'dx=".6em" dy=".36em" class="n"', length))
+               + self.text(length, self.strip, 'dx=".6em" dy=".36em" class="n"', told))
+
+    def bar(self):
+        """How long the bar of the scale is, in the map's unit, and in map units."""
+        quarter, unit = self.width // 4, 10 ** self.places
+        if quarter >= unit:
+            whole = quarter // unit
+            told = next(whole // grain * grain for grain in (1024, 128, 16, 1) if whole >= grain)
+            return told * unit, told
+        length = int(str(quarter)[0].ljust(len(str(quarter)), "0"))
+        return length, ("%.*f" % (self.places, Fraction(length, unit))).rstrip("0").rstrip(".") or "0"
+
+    def units(self, n):
+        """A number in map units, without zeros at its end."""
+        whole, rest = divmod(abs(n), 10 ** self.places)
+        digits = ("%0*d" % (self.places, rest) if self.places else "").rstrip("0")
+        return "-" * (n < 0) + str(whole) + ("." + digits if digits else "")
 
     def text(self, x, y, moved, words):
         return '<text x="%d" y="%d" %s>%s</text>' % (x, y, moved, words)
@@ -184,7 +199,8 @@ def crossed(sheet):
     over = ['<path class="k" id="fault" d="%s"/>' % shape]
     for i, j, (word, place) in kept:
         if place:
-            over.append(sheet.round("lines %d and %d %s at %d, %d" % (i.number, j.number, word, *place), place))
+            told = tuple(map(sheet.units, place))
+            over.append(sheet.round("lines %d and %d %s at %s, %s" % (i.number, j.number, word, *told), place))
     about = " faults" + (", %d clashes left out" % left_out if left_out else "")
     return sheet.whole(about, [], over), "faults %s %d %d" % (found[0][2][0], found[0][0].number, found[0][1].number)
 

@@ -14,6 +14,7 @@ use Rattle.map_answers.specs.Groups.{IsOverGroups, MapGroups}
 use Rattle.map_answers.specs.Sound.{HasSoundLines, IsAuditRefusal, IsFlaw}
 use Rattle.map_answers.proofs.Flaws.{gives_refused}
 use Rattle.map_answers.proofs.OneGroups.{one_groups}
+use Rattle.map_picture.specs.Picture.{NamedParts}
 use Rattle.draw_answers.specs.declared.drawn.Drawn.{Drawn}
 use Rattle.draw_answers.specs.Drawn.{Drawing, IsMadeOf, drawing, drawn_answer, one_picture}
 use Rattle.draw_answers.specs.Faults.{AreMarksOf, DrawFaultsCalls, DrawsFault, IsFaultOf, ShowsFlaw, flaw_drawing, plain_drawing}
@@ -43,7 +44,7 @@ module _ (m : Map) where
   one_marks (flaw.Line fault) x y refused h k = one_of_clashes m x y h k
   one_marks (flaw.Open side) x y refused h k = one_of_open_faces m x y refused.0.meet h k
 
-  module _ (name out : List ℕ) where
+  module _ (name : NamedParts) (out : List ℕ) where
     abbrev Given : Result Drawn Status → Type 0
     Given s = Gives ⊤ (DrawFaultsCalls name out m) (drawn_answer out s)
 
@@ -71,7 +72,7 @@ module _ (m : Map) where
     gives_flaw which h (Ok e) s shown made = gives_drawn (drawing e) (Some which) (is_refused which h) shown (one_flaw which h (drawing e) shown) (Ok e) s refl made
     gives_flaw which h (Err x) s shown made = subst Given (sym made) tt
 
-module _ (p : PlanParts) (plan : IsPlan p) (name out : List ℕ) (g : MapGroups) (lines : HasSoundLines (map_of p)) (over : IsOverGroups (map_of p) g) where
+module _ (p : PlanParts) (plan : IsPlan p) (name : NamedParts) (out : List ℕ) (g : MapGroups) (lines : HasSoundLines (map_of p)) (over : IsOverGroups (map_of p) g) where
   one_plain : (o : Option Flaw) (e : Drawing) → IsFaultOf (map_of p) o → DrawsFault name (map_of p) o e → e ≡ plain_drawing name (map_of p) g
   one_plain (Some which) e first draws = absurd (not_flawed (map_of p) which lines over.faces first)
   one_plain None e first draws = draws.is ∙ ap (λ (x : MapGroups). plain_drawing name (map_of p) x) (one_groups p plan g draws.groups over draws.over)

@@ -23,6 +23,7 @@ use Rattle.pair_answer.specs.Places.{ArePlacesOf}
 use Rattle.pair_answer.specs.declared.entered_triangles.entered.Entered.{Entered}
 use Rattle.pair_answer.specs.EnteredTriangles.Answer.{IsEnteredWithin}
 use Rattle.pair_answer.proofs.EnteredTriangles.Within.{stops_from_within, stops_to_within, triangles_within}
+use Rattle.map_picture.specs.Picture.{NamedParts}
 use Rattle.draw_answers.specs.declared.drawn.Drawn.{Drawn}
 use Rattle.draw_answers.specs.declared.entering.Area.{Area}
 use Rattle.draw_answers.specs.Drawn.{Drawing, IsMadeOf, drawing, drawn_answer}
@@ -60,7 +61,7 @@ module _ (g : MapGroups) (budget : Budget) (n : ℕ) (triangles : AreTriangles n
 
 -- ---- what an answer calls for
 
-module _ (name : List ℕ) (m : Map) (pair : Pair) (g : MapGroups) (ask : Ask) where
+module _ (name : NamedParts) (m : Map) (pair : Pair) (g : MapGroups) (ask : Ask) where
   shown_of : (budget : Budget) (sector s : ℕ) (e : Entered) (d : Drawing) → sector ≡ s → IsEnteredOver g budget sector e → d ≡ entered_drawing name m pair g sector e.triangles.items e.stops.items → ShowsEntered name m pair g budget s d
   shown_of budget sector s e d of over same = subst (λ (n : ℕ). ShowsEntered name m pair g budget n d) of (record { entered = e; over = over; is = same })
 

@@ -37,7 +37,7 @@ plans_shown name out m answer h =
 pub faults_marked : FaultsAreMarked
 faults_marked name out m answer h = go h.fault h.first h.shown h.draws h.is
   where
-    go : (o : Option Flaw) → IsFaultOf m o → (d : Drawing) → DrawsFault name m o d → answer ≡ one_picture out d → MarksFault out m answer
+    go : (o : Option Flaw) → IsFaultOf m o → (d : Drawing) → DrawsFault name m o d → answer ≡ one_picture out d → MarksFault name.places out m answer
     go (Some which) first d draws is =
         let x = draws.marks in
         record {
@@ -46,7 +46,7 @@ faults_marked name out m answer h = go h.fault h.first h.shown h.draws h.is
           picture = marked_picture name m x.left_out x.lines x.faults x.arrows;
           writes = record {
             writes = writes_of answer _ (is ∙ ap (λ (y : Drawing). one_picture out y) draws.is);
-            lines = lines_shown name (subject.Faults x.left_out) m [] (Marked x.lines ∷ faults_from x.faults ++ arrows_from x.arrows) no_line (no_line_marked x.lines x.faults x.arrows);
+            lines = lines_shown name (subject.Faults x.left_out) m [] (Marked x.lines ∷ faults_from name.places x.faults ++ arrows_from name.places x.arrows) no_line (no_line_marked name.places x.lines x.faults x.arrows);
           };
           marks = record {
             marks = x;

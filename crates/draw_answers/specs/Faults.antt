@@ -10,7 +10,7 @@ use Rattle.fault_marks.specs.Marks.{AreOfClashes, AreOfOpenFaces}
 use Rattle.map_answers.specs.declared.sight_status.status.Flaw.TheVariants as flaw
 use Rattle.map_answers.specs.SightStatus.Answer.{Answer}
 use Rattle.map_picture.specs.Bytes.{svg_of}
-use Rattle.map_picture.specs.Picture.{marked_picture, plan_picture}
+use Rattle.map_picture.specs.Picture.{NamedParts, marked_picture, plan_picture}
 use Rattle.map_answers.specs.Groups.{IsOverGroups, MapGroups}
 use Rattle.map_answers.specs.Sound.{IsFlaw}
 use Rattle.draw_answers.specs.Drawn.{Drawing, one_picture}
@@ -22,26 +22,26 @@ AreMarksOf m (flaw.Line fault) x = AreOfClashes m x
 AreMarksOf m (flaw.Open side) x = AreOfOpenFaces m x
 
 -- the plan with these marks; the line tells the flaw that is first
-abbrev pub flaw_drawing : List ℕ → Map → Flaw → FaultMarks → Drawing
-flaw_drawing name m which x = record { bytes = svg_of m (marked_picture name m x.left_out x.lines x.faults x.arrows); line = flaw_line name which }
+abbrev pub flaw_drawing : NamedParts → Map → Flaw → FaultMarks → Drawing
+flaw_drawing name m which x = record { bytes = svg_of m (marked_picture name m x.left_out x.lines x.faults x.arrows); line = flaw_line name.text which }
 
 -- with those that the flaw calls for
-pub record ShowsFlaw (name : List ℕ) (m : Map) (which : Flaw) (d : Drawing) : Type 0 where
+pub record ShowsFlaw (name : NamedParts) (m : Map) (which : Flaw) (d : Drawing) : Type 0 where
   pub marks : FaultMarks
   pub are : AreMarksOf m which marks
   pub is : d ≡ flaw_drawing name m which marks
 
-abbrev pub plain_drawing : List ℕ → Map → MapGroups → Drawing
-plain_drawing name m g = record { bytes = svg_of m (plan_picture name m g.groups g.triangles g.labels); line = faultless_line name }
+abbrev pub plain_drawing : NamedParts → Map → MapGroups → Drawing
+plain_drawing name m g = record { bytes = svg_of m (plan_picture name m g.groups g.triangles g.labels); line = faultless_line name.text }
 
 -- the plan over the groups of a map without a fault
-pub record IsPlain (name : List ℕ) (m : Map) (d : Drawing) : Type 0 where
+pub record IsPlain (name : NamedParts) (m : Map) (d : Drawing) : Type 0 where
   pub groups : MapGroups
   pub over : IsOverGroups m groups
   pub is : d ≡ plain_drawing name m groups
 
 -- what is drawn of a map of which this fault is told first, or none
-abbrev pub DrawsFault : List ℕ → Map → Option Flaw → Drawing → Type 0
+abbrev pub DrawsFault : NamedParts → Map → Option Flaw → Drawing → Type 0
 DrawsFault name m (Some which) d = ShowsFlaw name m which d
 DrawsFault name m None d = IsPlain name m d
 
@@ -50,7 +50,7 @@ abbrev pub IsFaultOf : Map → Option Flaw → Type 0
 IsFaultOf m (Some which) = IsFlaw m (Err (status.BadMap which))
 IsFaultOf m None = HasClosedFaces m
 
-pub record ShowsFault (name out : List ℕ) (m : Map) (answer : Answer) : Type 0 where
+pub record ShowsFault (name : NamedParts) (out : List ℕ) (m : Map) (answer : Answer) : Type 0 where
   pub fault : Option Flaw
   pub first : IsFaultOf m fault
   pub shown : Drawing
@@ -58,6 +58,6 @@ pub record ShowsFault (name out : List ℕ) (m : Map) (answer : Answer) : Type 0
   pub is : answer ≡ one_picture out shown
 
 -- the answers that it calls for; no map is refused for its faults
-abbrev pub DrawFaultsCalls : List ℕ → List ℕ → Map → Result Answer Status → Type 0
+abbrev pub DrawFaultsCalls : NamedParts → List ℕ → Map → Result Answer Status → Type 0
 DrawFaultsCalls name out m (Ok answer) = ShowsFault name out m answer
 DrawFaultsCalls name out m (Err refusal) = ⊥

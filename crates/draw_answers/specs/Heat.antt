@@ -6,7 +6,7 @@ use Rattle.reject_bits.specs.Parts.{TableParts}
 use Rattle.map_answers.specs.declared.sight_status.status.Status.{Status}
 use Rattle.map_answers.specs.SightStatus.Answer.{Answer}
 use Rattle.map_picture.specs.Bytes.{svg_of}
-use Rattle.map_picture.specs.Picture.{heat_picture, most_of}
+use Rattle.map_picture.specs.Picture.{NamedParts, heat_picture, most_of}
 use Rattle.map_answers.specs.Groups.{MapGroups, OnAudited}
 use Rattle.draw_answers.specs.Drawn.{Drawing, one_picture}
 use Rattle.draw_answers.specs.Lines.{set_in_row}
@@ -27,13 +27,13 @@ seen_by t groups = map (most_seen t) groups
 abbrev pub heat_line_of : List ℕ → ℕ → List ℕ
 heat_line_of name most = codes "drawn " ++ name ++ codes " heat most " ++ decimal most ++ codes "\n"
 
-abbrev pub heat_drawing : List ℕ → Map → TableParts → MapGroups → Drawing
-heat_drawing name m t g = record { bytes = svg_of m (heat_picture name m g.groups g.triangles g.labels (seen_by t g.groups)); line = heat_line_of name (most_of (seen_by t g.groups)) }
+abbrev pub heat_drawing : NamedParts → Map → TableParts → MapGroups → Drawing
+heat_drawing name m t g = record { bytes = svg_of m (heat_picture name m g.groups g.triangles g.labels (seen_by t g.groups)); line = heat_line_of name.text (most_of (seen_by t g.groups)) }
 
 -- over the groups of a map
-abbrev pub HeatCall : List ℕ → List ℕ → Map → TableParts → MapGroups → Result Answer Status → Type 0
+abbrev pub HeatCall : NamedParts → List ℕ → Map → TableParts → MapGroups → Result Answer Status → Type 0
 HeatCall name out m t g answer = answer ≡ Ok (one_picture out (heat_drawing name m t g))
 
 -- the answers that it calls for
-abbrev pub DrawHeatCalls : List ℕ → List ℕ → TableParts → Map → Result Answer Status → Type 0
+abbrev pub DrawHeatCalls : NamedParts → List ℕ → TableParts → Map → Result Answer Status → Type 0
 DrawHeatCalls name out t m answer = OnAudited m (HeatCall name out m t) answer

@@ -19,7 +19,7 @@ use Rattle.map_answers.specs.SightStatus.Answer.{Answer}
 use Rattle.group_job.specs.declared.build.GroupBuilt.{GroupBuilt}
 use Rattle.group_job.specs.Built.{DecidesByGroups}
 use Rattle.map_picture.specs.Bytes.{svg_of}
-use Rattle.map_picture.specs.Picture.{Element, most_of}
+use Rattle.map_picture.specs.Picture.{NamedParts, Element, most_of}
 use Rattle.map_picture.specs.Laws.{ShowsArrows, ShowsFaces, ShowsFaults, ShowsLines, ShowsMarks, TellsHeat, TellsRow}
 use Rattle.map_answers.specs.Groups.{IsOverGroups, MapGroups}
 use Rattle.pair_answer.specs.Laws.{IsSaidOf, TellsSight}
@@ -39,26 +39,26 @@ pub record WritesPicture (out : List ℕ) (m : Map) (answer : Answer) (picture :
   pub lines : ShowsLines m picture
 
 abbrev pub PlansShowLines : Type 0
-PlansShowLines = (name out : List ℕ) (m : Map) (answer : Answer) → DrawPlanCalls name out m (Ok answer) → (picture : List Element) × WritesPicture out m answer picture
+PlansShowLines = (name : NamedParts) (out : List ℕ) (m : Map) (answer : Answer) → DrawPlanCalls name out m (Ok answer) → (picture : List Element) × WritesPicture out m answer picture
 
 -- the lines and the points that the flaw calls for are marked, and no other, and arrows lead just where it calls for them
-pub record TellsMarks (m : Map) (which : Flaw) (picture : List Element) : Type 0 where
+pub record TellsMarks (places : ℕ) (m : Map) (which : Flaw) (picture : List Element) : Type 0 where
   pub marks : FaultMarks
   pub are : AreMarksOf m which marks
   pub lines : ShowsMarks marks.lines picture
-  pub rings : ShowsFaults marks.faults picture
-  pub arrows : ShowsArrows marks.arrows picture
+  pub rings : ShowsFaults places marks.faults picture
+  pub arrows : ShowsArrows places marks.arrows picture
 
 -- .. and, if the map has a fault, those that the first one calls for
-pub record MarksFault (out : List ℕ) (m : Map) (answer : Answer) : Type 0 where
+pub record MarksFault (places : ℕ) (out : List ℕ) (m : Map) (answer : Answer) : Type 0 where
   pub fault : Option Flaw
   pub first : IsFaultOf m fault
   pub picture : List Element
   pub writes : WritesPicture out m answer picture
-  pub marks : IfSome fault (λ which. TellsMarks m which picture)
+  pub marks : IfSome fault (λ which. TellsMarks places m which picture)
 
 abbrev pub FaultsAreMarked : Type 0
-FaultsAreMarked = (name out : List ℕ) (m : Map) (answer : Answer) → DrawFaultsCalls name out m (Ok answer) → MarksFault out m answer
+FaultsAreMarked = (name : NamedParts) (out : List ℕ) (m : Map) (answer : Answer) → DrawFaultsCalls name out m (Ok answer) → MarksFault name.places out m answer
 
 -- .. and its faces tell what the row of sector a has of their groups
 pub record TellsTable (out : List ℕ) (m : Map) (t : TableParts) (a : ℕ) (answer : Answer) : Type 0 where
@@ -69,7 +69,7 @@ pub record TellsTable (out : List ℕ) (m : Map) (t : TableParts) (a : ℕ) (ans
   pub faces : ShowsFaces groups.groups groups.triangles groups.labels (TellsRow t a) picture
 
 abbrev pub RowsTellTables : Type 0
-RowsTellTables = (name out : List ℕ) (m : Map) (t : TableParts) (a : ℕ) (answer : Answer) → DrawRowCalls name out t a m (Ok answer) → TellsTable out m t a answer
+RowsTellTables = (name : NamedParts) (out : List ℕ) (m : Map) (t : TableParts) (a : ℕ) (answer : Answer) → DrawRowCalls name out t a m (Ok answer) → TellsTable out m t a answer
 
 -- .. and its faces are painted by the most that one of their sectors may see by the table
 pub record TellsHeatOf (out : List ℕ) (m : Map) (t : TableParts) (answer : Answer) : Type 0 where
@@ -80,12 +80,12 @@ pub record TellsHeatOf (out : List ℕ) (m : Map) (t : TableParts) (answer : Ans
   pub faces : ShowsFaces groups.groups groups.triangles groups.labels (TellsHeat (most_seen t) (most_of (seen_by t groups.groups))) picture
 
 abbrev pub HeatTellsTables : Type 0
-HeatTellsTables = (name out : List ℕ) (m : Map) (t : TableParts) (answer : Answer) → DrawHeatCalls name out t m (Ok answer) → TellsHeatOf out m t answer
+HeatTellsTables = (name : NamedParts) (out : List ℕ) (m : Map) (t : TableParts) (answer : Answer) → DrawHeatCalls name out t m (Ok answer) → TellsHeatOf out m t answer
 
 -- ---- pairs
 
 -- The picture is of an answer that is what a build says of the pair, and that tells whether the two sectors see each other.
-pub record IsDrawnAs (name out : List ℕ) (m : Map) (ask : Ask) (pair : Pair) (b : GroupBuilt) (answer : Answer) : Type 0 where
+pub record IsDrawnAs (name : NamedParts) (out : List ℕ) (m : Map) (ask : Ask) (pair : Pair) (b : GroupBuilt) (answer : Answer) : Type 0 where
   pub groups : MapGroups
   pub over : IsOverGroups m groups
   pub drawn : DrawsPair name out m ask pair groups answer
@@ -93,7 +93,7 @@ pub record IsDrawnAs (name out : List ℕ) (m : Map) (ask : Ask) (pair : Pair) (
   pub sight : TellsSight m pair drawn.given
 
 abbrev pub PairsAreOfBuilds : Type 0
-PairsAreOfBuilds = (p : PlanParts) (name out : List ℕ) (ask : Ask) (pair : Pair) (b : GroupBuilt) (answer : Answer) → IsPlan p → DecidesByGroups (map_of p) ask b
+PairsAreOfBuilds = (p : PlanParts) (name : NamedParts) (out : List ℕ) (ask : Ask) (pair : Pair) (b : GroupBuilt) (answer : Answer) → IsPlan p → DecidesByGroups (map_of p) ask b
     → DrawPairCalls name out ask pair (map_of p) (Ok answer) → IsDrawnAs name out (map_of p) ask pair b answer
 
 -- ---- what is entered

@@ -8,7 +8,7 @@ use Rattle.sight_names.specs.Enough.{IsBudgetOf}
 use Rattle.sight_names.specs.Map.{Map}
 use Rattle.map_picture.specs.declared.pair.Stop.{Stop}
 use Rattle.map_picture.specs.Bytes.{svg_of}
-use Rattle.map_picture.specs.Picture.{blind_picture, pair_picture, sight_picture}
+use Rattle.map_picture.specs.Picture.{NamedParts, blind_picture, pair_picture, sight_picture}
 use Rattle.map_answers.specs.declared.sight_status.status.Status.{Status}
 use Rattle.map_answers.specs.declared.sight_status.status.Status.TheVariants as status
 use Rattle.map_answers.specs.declared.sight_status.status.Why.TheVariants as why
@@ -54,17 +54,17 @@ module _ (g : MapGroups) (budget : Budget) where
 
 -- ---- pictures
 
-module _ (name : List ℕ) (m : Map) (pair : Pair) (g : MapGroups) where
+module _ (name : NamedParts) (m : Map) (pair : Pair) (g : MapGroups) where
   abbrev pub sight_drawing : Ray → Drawing
-  sight_drawing ray = record { bytes = svg_of m (sight_picture name m g.groups g.triangles g.labels pair.a pair.b ray); line = pair_line name pair (codes " sight\n") }
+  sight_drawing ray = record { bytes = svg_of m (sight_picture name m g.groups g.triangles g.labels pair.a pair.b ray); line = pair_line name.text pair (codes " sight\n") }
 
   -- the faces alone
   abbrev pub word_drawing : List ℕ → Drawing
-  word_drawing word = record { bytes = svg_of m (pair_picture name m g.groups g.triangles g.labels pair.a pair.b); line = pair_line name pair word }
+  word_drawing word = record { bytes = svg_of m (pair_picture name m g.groups g.triangles g.labels pair.a pair.b); line = pair_line name.text pair word }
 
   -- .. with triangles and stops as those of this sector: its number is the title of the triangles, and it is told by the line
   abbrev pub entered_drawing : ℕ → List ℕ → List Stop → Drawing
-  entered_drawing sector entered stops = record { bytes = svg_of m (blind_picture name m g.groups g.triangles g.labels pair.a pair.b sector entered stops); line = blind_line_of name pair sector (length entered) (length stops) }
+  entered_drawing sector entered stops = record { bytes = svg_of m (blind_picture name m g.groups g.triangles g.labels pair.a pair.b sector entered stops); line = blind_line_of name.text pair sector (length entered) (length stops) }
 
   -- what sight out of the sector enters, shown as that
   pub record ShowsEntered (budget : Budget) (sector : ℕ) (d : Drawing) : Type 0 where
@@ -96,7 +96,7 @@ module _ (name : List ℕ) (m : Map) (pair : Pair) (g : MapGroups) where
   IsPairIfMade ask given (Err other) = ⊥
 
 -- over the groups of a map, an answer for its pair of sectors within the budget that is asked for, and what that calls for
-pub record DrawsPair (name out : List ℕ) (m : Map) (ask : Ask) (pair : Pair) (g : MapGroups) (drawn : Answer) : Type 0 where
+pub record DrawsPair (name : NamedParts) (out : List ℕ) (m : Map) (ask : Ask) (pair : Pair) (g : MapGroups) (drawn : Answer) : Type 0 where
   pub given : PairAnswer
   pub is_answer : IsAnswerFor m ask pair given
   pub shown : Drawing
@@ -104,11 +104,11 @@ pub record DrawsPair (name out : List ℕ) (m : Map) (ask : Ask) (pair : Pair) (
   pub is : drawn ≡ one_picture out shown
 
 -- .. the no where a number is of no sector
-abbrev pub PairCall : List ℕ → List ℕ → Map → Ask → Pair → MapGroups → Result Answer Status → Type 0
+abbrev pub PairCall : NamedParts → List ℕ → Map → Ask → Pair → MapGroups → Result Answer Status → Type 0
 PairCall name out m ask pair g (Ok drawn) = DrawsPair name out m ask pair g drawn
 PairCall name out m ask pair g (Err (status.No (why.NoSector k))) = IsMissing m pair k
 PairCall name out m ask pair g (Err other) = ⊥
 
 -- the answers that it calls for
-abbrev pub DrawPairCalls : List ℕ → List ℕ → Ask → Pair → Map → Result Answer Status → Type 0
+abbrev pub DrawPairCalls : NamedParts → List ℕ → Ask → Pair → Map → Result Answer Status → Type 0
 DrawPairCalls name out ask pair m answer = OnAudited m (PairCall name out m ask pair) answer

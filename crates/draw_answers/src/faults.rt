@@ -16,7 +16,7 @@ use crate::plan::faces_alone;
 use fault_marks::{FaultMarks, marks_of_clashes, marks_of_open_faces};
 use map_answers::MeshGroups;
 use map_answers::sight_status::{Flaw, Status};
-use map_picture::marked_picture;
+use map_picture::{Named, marked_picture};
 use sight_names::{Memory, Plan};
 use std::alloc::Global;
 
@@ -35,7 +35,7 @@ fn marks_of(alloc: Global, plan: &Plan, which: Flaw) -> Result<FaultMarks, Memor
 fn drawn_marks(
     alloc: Global,
     plan: &Plan,
-    map: &str,
+    map: &Named<'_>,
     which: Flaw,
     marks: &FaultMarks,
 ) -> Result<Drawn, Memory>
@@ -45,12 +45,12 @@ fn drawn_marks(
     let faults = marks.faults.as_slice();
     let arrows = marks.arrows.as_slice();
     let picture = marked_picture(alloc, map, plan, marks.left_out, lines, faults, arrows)?;
-    let line = fault_line(alloc, map, which)?;
+    let line = fault_line(alloc, map.text, which)?;
     Ok(Drawn { picture, line })
 }
 
 /// The plan with its faults marked, and the line of the first one.
-fn drawn_fault(alloc: Global, plan: &Plan, map: &str, which: Flaw) -> Result<Drawn, Memory>
+fn drawn_fault(alloc: Global, plan: &Plan, map: &Named<'_>, which: Flaw) -> Result<Drawn, Memory>
     requires { IsAuditRefusal (map_of plan.now) (status.BadMap which) }
     ensures { IfOk result (λ d. ShowsFlaw map.now (map_of plan.now) which (drawing d)) }
 {
@@ -59,18 +59,28 @@ fn drawn_fault(alloc: Global, plan: &Plan, map: &str, which: Flaw) -> Result<Dra
 }
 
 /// The plan alone, and the line of a map without a fault.
-fn drawn_plain(alloc: Global, plan: &Plan, groups: &MeshGroups, map: &str) -> Result<Drawn, Memory>
+fn drawn_plain(
+    alloc: Global,
+    plan: &Plan,
+    groups: &MeshGroups,
+    map: &Named<'_>,
+) -> Result<Drawn, Memory>
     requires groups { AreGroupsOver plan.now groups.now }
     requires points { groups.now.mesh.points ≡ length plan.now.points }
     ensures { IfOk result (λ d. drawing d ≡ plain_drawing map.now (map_of plan.now) (seen groups.now)) }
 {
     let picture = faces_alone(alloc, plan, groups, map)?;
-    let line = no_fault_line(alloc, map)?;
+    let line = no_fault_line(alloc, map.text)?;
     Ok(Drawn { picture, line })
 }
 
 /// The plan of a map that its audit refuses so.
-fn drawn_refused(alloc: Global, plan: &Plan, map: &str, refusal: Status) -> Result<Drawn, Status>
+fn drawn_refused(
+    alloc: Global,
+    plan: &Plan,
+    map: &Named<'_>,
+    refusal: Status,
+) -> Result<Drawn, Status>
     requires { IsAuditRefusal (map_of plan.now) refusal }
     ensures judged { (out : List ℕ) → Gives ⊤ (DrawFaultsCalls map.now out (map_of plan.now)) (drawn_answer out result) }
     ensures refusals { IfErr result (λ s. s ≡ status.Memory tt) }
@@ -85,7 +95,7 @@ fn drawn_refused(alloc: Global, plan: &Plan, map: &str, refusal: Status) -> Resu
 
 /// The picture of any map's plan, in which its faults are marked: the first thousand pairs of lines that clash, or where none do the
 /// open sides, the torn corners with the ways round them, and the loose ends. The line is of the fault that an audit tells.
-pub fn draw_faults(alloc: Global, plan: &Plan, map: &str) -> Result<Drawn, Status>
+pub fn draw_faults(alloc: Global, plan: &Plan, map: &Named<'_>) -> Result<Drawn, Status>
     ensures judged { (out : List ℕ) → Gives ⊤ (DrawFaultsCalls map.now out (map_of plan.now)) (drawn_answer out result) }
     ensures refusals { IfErr result (λ s. s ≡ status.Memory tt) }
 {

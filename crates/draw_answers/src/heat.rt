@@ -14,7 +14,7 @@ use crate::lines::heat_line;
 use crate::row::count_row;
 use map_answers::MeshGroups;
 use map_answers::sight_status::Status;
-use map_picture::{heat_picture, most_of};
+use map_picture::{Named, heat_picture, most_of};
 use reject_bits::Table;
 use sight_names::{Items, Memory, Plan};
 use std::alloc::Global;
@@ -56,7 +56,7 @@ fn drawn_heat(
     alloc: Global,
     plan: &Plan,
     groups: &MeshGroups,
-    map: &str,
+    map: &Named<'_>,
     table: &Table,
 ) -> Result<Drawn, Memory>
     requires groups { AreGroupsOver plan.now groups.now }
@@ -75,12 +75,17 @@ fn drawn_heat(
         grouped.groups.as_slice(),
         counts.as_slice(),
     )?;
-    let line = heat_line(alloc, map, most_of(counts.as_slice()))?;
+    let line = heat_line(alloc, map.text, most_of(counts.as_slice()))?;
     Ok(Drawn { picture, line })
 }
 
 /// The picture of a sound map's plan in which each face is painted by how much its sectors may see by the table.
-pub fn draw_heat(alloc: Global, plan: &Plan, map: &str, table: &Table) -> Result<Drawn, Status>
+pub fn draw_heat(
+    alloc: Global,
+    plan: &Plan,
+    map: &Named<'_>,
+    table: &Table,
+) -> Result<Drawn, Status>
     requires { table.now.n ≡ plan.now.sectors }
     ensures judged { (out : List ℕ) → Gives ⊤ (DrawHeatCalls map.now out table.now (map_of plan.now)) (drawn_answer out result) }
     ensures refusals { IfErr result IsOfDrawTest }

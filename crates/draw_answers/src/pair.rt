@@ -16,7 +16,7 @@ use crate::entering::{Area, area_of_pair, budget_for};
 use crate::lines::{blind_line, word_line};
 use map_answers::MeshGroups;
 use map_answers::sight_status::{Status, Why};
-use map_picture::{blind_picture, pair_picture, sight_picture};
+use map_picture::{Named, blind_picture, pair_picture, sight_picture};
 use pair_answer::{PairAnswer, pair_answer};
 use sight_names::{Ask, Memory, Pair, Plan, Ray};
 use std::alloc::Global;
@@ -26,7 +26,7 @@ fn drawn_word(
     alloc: Global,
     plan: &Plan,
     groups: &MeshGroups,
-    map: &str,
+    map: &Named<'_>,
     pair: Pair,
     word: &str,
 ) -> Result<Drawn, Memory>
@@ -44,7 +44,7 @@ fn drawn_word(
         grouped.groups.as_slice(),
         pair,
     )?;
-    let line = word_line(alloc, map, pair, word)?;
+    let line = word_line(alloc, map.text, pair, word)?;
     Ok(Drawn { picture, line })
 }
 
@@ -53,7 +53,7 @@ fn drawn_sight(
     alloc: Global,
     plan: &Plan,
     groups: &MeshGroups,
-    map: &str,
+    map: &Named<'_>,
     pair: Pair,
     ray: &Ray,
 ) -> Result<Drawn, Memory>
@@ -73,7 +73,7 @@ fn drawn_sight(
         pair,
         ray,
     )?;
-    let line = word_line(alloc, map, pair, " sight\n")?;
+    let line = word_line(alloc, map.text, pair, " sight\n")?;
     Ok(Drawn { picture, line })
 }
 
@@ -82,7 +82,7 @@ fn drawn_entered(
     alloc: Global,
     plan: &Plan,
     groups: &MeshGroups,
-    map: &str,
+    map: &Named<'_>,
     pair: Pair,
     area: &Area,
 ) -> Result<Drawn, Memory>
@@ -109,7 +109,7 @@ fn drawn_entered(
     )?;
     let line = blind_line(
         alloc,
-        map,
+        map.text,
         pair,
         area.sector,
         entered.triangles.len(),
@@ -123,7 +123,7 @@ fn drawn_blind(
     alloc: Global,
     plan: &Plan,
     groups: &MeshGroups,
-    map: &str,
+    map: &Named<'_>,
     ask: Ask,
     pair: Pair,
 ) -> Result<Drawn, Memory>
@@ -144,7 +144,7 @@ fn drawn_answer_of(
     alloc: Global,
     plan: &Plan,
     groups: &MeshGroups,
-    map: &str,
+    map: &Named<'_>,
     ask: Ask,
     pair: Pair,
     answer: PairAnswer,
@@ -183,7 +183,7 @@ fn answer_over(
 pub fn draw_pair(
     alloc: Global,
     plan: &Plan,
-    map: &str,
+    map: &Named<'_>,
     ask: Ask,
     pair: Pair,
 ) -> Result<Drawn, Status>

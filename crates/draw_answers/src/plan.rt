@@ -16,7 +16,7 @@ use crate::drawn::{Drawn, made};
 use crate::lines::plan_line;
 use map_answers::MeshGroups;
 use map_answers::sight_status::Status;
-use map_picture::plan_picture;
+use map_picture::{Named, plan_picture};
 use sight_names::{Line, Memory, Plan};
 use std::alloc::Global;
 
@@ -45,7 +45,7 @@ pub fn faces_alone(
     alloc: Global,
     plan: &Plan,
     groups: &MeshGroups,
-    map: &str,
+    map: &Named<'_>,
 ) -> Result<Vec<u8>, Memory>
     requires groups { AreGroupsOver plan.now groups.now }
     requires points { groups.now.mesh.points ≡ length plan.now.points }
@@ -63,18 +63,23 @@ pub fn faces_alone(
 }
 
 /// The plan, and its line.
-fn drawn_plan(alloc: Global, plan: &Plan, groups: &MeshGroups, map: &str) -> Result<Drawn, Memory>
+fn drawn_plan(
+    alloc: Global,
+    plan: &Plan,
+    groups: &MeshGroups,
+    map: &Named<'_>,
+) -> Result<Drawn, Memory>
     requires groups { AreGroupsOver plan.now groups.now }
     requires points { groups.now.mesh.points ≡ length plan.now.points }
     ensures { IfOk result (λ d. drawing d ≡ plan_drawing map.now (map_of plan.now) (seen groups.now)) }
 {
     let picture = faces_alone(alloc, plan, groups, map)?;
-    let line = plan_line(alloc, map, count_lines(plan), plan.sectors)?;
+    let line = plan_line(alloc, map.text, count_lines(plan), plan.sectors)?;
     Ok(Drawn { picture, line })
 }
 
 /// The picture of a sound map's plan.
-pub fn draw_plan(alloc: Global, plan: &Plan, map: &str) -> Result<Drawn, Status>
+pub fn draw_plan(alloc: Global, plan: &Plan, map: &Named<'_>) -> Result<Drawn, Status>
     ensures judged { (out : List ℕ) → Gives ⊤ (DrawPlanCalls map.now out (map_of plan.now)) (drawn_answer out result) }
     ensures refusals { IfErr result IsOfMapTest }
 {

@@ -13,7 +13,7 @@ use crate::drawn::{Drawn, made};
 use crate::lines::row_line;
 use map_answers::MeshGroups;
 use map_answers::sight_status::{Status, Why};
-use map_picture::row_picture;
+use map_picture::{Named, row_picture};
 use reject_bits::Table;
 use sight_names::{Memory, Plan};
 use std::alloc::Global;
@@ -38,7 +38,7 @@ fn drawn_row(
     alloc: Global,
     plan: &Plan,
     groups: &MeshGroups,
-    map: &str,
+    map: &Named<'_>,
     table: &Table,
     a: u16,
 ) -> Result<Drawn, Memory>
@@ -60,7 +60,7 @@ fn drawn_row(
         a,
     )?;
     let set = count_row(table, a);
-    let line = row_line(alloc, map, a, set, u64::from(table.sectors()) - set)?;
+    let line = row_line(alloc, map.text, a, set, u64::from(table.sectors()) - set)?;
     Ok(Drawn { picture, line })
 }
 
@@ -68,7 +68,7 @@ fn drawn_row(
 pub fn draw_row(
     alloc: Global,
     plan: &Plan,
-    map: &str,
+    map: &Named<'_>,
     table: &Table,
     a: u16,
 ) -> Result<Drawn, Status>

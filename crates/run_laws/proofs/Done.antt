@@ -24,7 +24,8 @@ use Rattle.pair_answer.specs.Answer.{IsAnswerFor}
 use Rattle.pair_answer.specs.WhyAnswers.Lines.{blind_line, listed_line, sight_line, touch_line}
 use Rattle.pair_answer.specs.WhyAnswers.Why.{WhyCalls, said_of}
 use Rattle.draw_answers.specs.Pair.{DrawPairCalls}
-use Rattle.sight_run.specs.Draw.{DrawCalls}
+use Rattle.map_picture.specs.Picture.{NamedParts}
+use Rattle.sight_run.specs.Draw.{DrawCalls, named_in}
 use Rattle.sight_run.specs.All.{AllCalls, MapsCall, OnRead}
 use Rattle.sight_run.specs.Build.{BuildCalls}
 use Rattle.sight_run.specs.Heard.{Heard}
@@ -127,7 +128,7 @@ module _ (m : Map) (ask : Ask) (pair : Pair) where
   of_why sound (status.BadMap (flaw.Open side)) q = absurd (q.1.against (sound.closed side))
   of_why sound s q = of_answer s q.given q.is_answer q.is
 
-  of_picture : (name out : List ℕ) → HasClosedFaces m → (s : Status) → DrawPairCalls name out ask pair m (Err s) → EndsPair m pair s
+  of_picture : (name : NamedParts) (out : List ℕ) → HasClosedFaces m → (s : Status) → DrawPairCalls name out ask pair m (Err s) → EndsPair m pair s
   of_picture name out sound (status.BadMap (flaw.Line fault)) q = absurd (not_sound m fault q sound.ends)
   of_picture name out sound (status.BadMap (flaw.Open side)) q = absurd (q.1.against (sound.closed side))
   of_picture name out sound (status.No (why.NoSector k)) q = q.1.called
@@ -146,7 +147,7 @@ module _ (m : Map) (ask : Ask) (pair : Pair) where
   why_right : (answer : Answer) → WhyCalls ask pair m (Ok answer) → answer.right ≡ true
   why_right answer q = said_right answer q.given q.is
 
-  picture_right : (name out : List ℕ) (answer : Answer) → DrawPairCalls name out ask pair m (Ok answer) → answer.right ≡ true
+  picture_right : (name : NamedParts) (out : List ℕ) (answer : Answer) → DrawPairCalls name out ask pair m (Ok answer) → answer.right ≡ true
   picture_right name out answer q = ap (λ (a : Answer). a.right) q.1.called.is
 
 pub why_is_done : WhyIsDone
@@ -160,9 +161,9 @@ why_is_done words wad name pair ask went found is_asked is_found sound well = el
 
 pub drawn_pair_is_done : DrawnPairIsDone
 unfolding Refuses AreRight
-drawn_pair_is_done words wad name out pair ask went found is_asked is_found sound well = elim (refuses words went.files went.heard went.before went.after went.sink.old went.sink.new went.status (λ answer q. picture_right found.map ask pair name out answer (subst (λ (r : Result LocatedMap Status). OnFound r (DrawCalls name out (view.Pair pair ask)) (Ok answer)) is_found (subst (λ r. AnswersAsked r went.files went.heard (Ok answer)) is_asked q))) well.quiet well.ends well.cause) as (λ _. EndsPair found.map pair went.status) [
+drawn_pair_is_done words wad name out pair ask went found is_asked is_found sound well = elim (refuses words went.files went.heard went.before went.after went.sink.old went.sink.new went.status (λ answer q. picture_right found.map ask pair (named_in found name) out answer (subst (λ (r : Result LocatedMap Status). OnFound r (DrawCalls name out (view.Pair pair ask)) (Ok answer)) is_found (subst (λ r. AnswersAsked r went.files went.heard (Ok answer)) is_asked q))) well.quiet well.ends well.cause) as (λ _. EndsPair found.map pair went.status) [
   | inl e ↦ subst (EndsPair found.map pair) (sym e) tt
   | inr (inl e) ↦ subst (EndsPair found.map pair) (sym e) tt
-  | inr (inr q) ↦ of_picture found.map ask pair name out sound went.status
+  | inr (inr q) ↦ of_picture found.map ask pair (named_in found name) out sound went.status
       (subst (λ (r : Result LocatedMap Status). OnFound r (DrawCalls name out (view.Pair pair ask)) (Err went.status)) is_found (subst (λ r. AnswersAsked r went.files went.heard (Err went.status)) is_asked q))
 ]

@@ -8,6 +8,7 @@ use Rattle.reject_bits.specs.Parts.{TableParts}
 use Rattle.map_answers.specs.declared.sight_status.status.Flaw.{Flaw}
 use Rattle.map_answers.specs.declared.sight_status.status.Status.{Status}
 use Rattle.map_answers.specs.SightStatus.Answer.{Answer}
+use Rattle.map_picture.specs.Picture.{NamedParts}
 use Rattle.draw_answers.specs.Drawn.{Drawing, one_picture}
 use Rattle.draw_answers.specs.Faults.{DrawsFault}
 use Rattle.draw_answers.specs.Heat.{DrawHeatCalls, heat_drawing}
@@ -15,7 +16,7 @@ use Rattle.draw_answers.specs.Plan.{plan_drawing}
 use Rattle.draw_answers.specs.Row.{DrawRowCalls, row_drawing}
 use Rattle.map_answers.specs.Input.{LocatedMap, OnFound}
 use Rattle.sight_run.specs.Check.{reject_of}
-use Rattle.sight_run.specs.Draw.{ByOwnTable, DrawCalls, IsCallIn, OnTable}
+use Rattle.sight_run.specs.Draw.{ByOwnTable, DrawCalls, IsCallIn, OnTable, ViewCalls, named_in}
 use Rattle.sight_run.specs.Obeys.{AnswersAsked}
 use Rattle.sight_run.specs.Reading.{found_of}
 use Rattle.sight_run.specs.Run.{put_all}
@@ -41,16 +42,16 @@ call_in : (Called : TableParts → Result Answer Status → Type 0) (found : Loc
 call_in Called found answer q = on_table Called found.map (reject_of found) _ (length (reject_of found) == table_len found.map.sectors) answer q
 
 -- the bytes that are drawn, and what they show
-record IsDrawn (name out : List ℕ) (asked : View) (found : LocatedMap) (answer : Answer) : Type 0 where
+record IsDrawn (name : NamedParts) (out : List ℕ) (asked : View) (found : LocatedMap) (answer : Answer) : Type 0 where
   drawing : Drawing
   is : answer ≡ one_picture out drawing
   shows : ShowsView name found asked drawing.bytes
 
-of_fault : (name : List ℕ) (m : Map) (fault : Option Flaw) (d : Drawing) → DrawsFault name m fault d → ShowsFault name m d.bytes fault
+of_fault : (name : NamedParts) (m : Map) (fault : Option Flaw) (d : Drawing) → DrawsFault name m fault d → ShowsFault name m d.bytes fault
 of_fault name m (Some which) d draws = record { marks = draws.marks; are = draws.are; is = ap (λ (x : Drawing). x.bytes) draws.is }
 of_fault name m None d draws = record { groups = draws.groups; over = draws.over; is = ap (λ (x : Drawing). x.bytes) draws.is }
 
-drawn : (name out : List ℕ) (asked : View) (found : LocatedMap) (answer : Answer) → DrawCalls name out asked found (Ok answer) → IsDrawn name out asked found answer
+drawn : (name : NamedParts) (out : List ℕ) (asked : View) (found : LocatedMap) (answer : Answer) → ViewCalls name out asked found (Ok answer) → IsDrawn name out asked found answer
 drawn name out view.Plan found answer q =
     let g = q.1.groups in
     record { drawing = plan_drawing name found.map g; is = same_ok answer (one_picture out (plan_drawing name found.map g)) q.1.called; shows = record { groups = g; over = q.1.over; is = refl } }
@@ -83,4 +84,4 @@ draw_leaves_picture words wad name out asked files heard answer is_asked h = on 
   where
     on : (r : Result LocatedMap Status) → found_of wad name files ≡ r → OnFound r (DrawCalls name out asked) (Ok answer) → LeavesPicture out files (put_all files answer.writes) (IsPictureOf wad name asked files)
     on (Err s) e q = absurd cc
-    on (Ok found) e q = let d = drawn name out asked found answer q in leaves files out answer d.drawing (IsPictureOf wad name asked files) d.is (record { found = found; was = e; shows = d.shows })
+    on (Ok found) e q = let d = drawn (named_in found name) out asked found answer q in leaves files out answer d.drawing (IsPictureOf wad name asked files) d.is (record { found = found; was = e; shows = d.shows })

@@ -23,7 +23,8 @@ use Rattle.pair_answer.specs.WhyAnswers.Why.{WhyCalls, said_of}
 use Rattle.draw_answers.specs.Drawn.{Drawing}
 use Rattle.draw_answers.specs.Pair.{IsEnteredOver, ShowsPair}
 use Rattle.draw_answers.proofs.Closing.{blind_closed, unseen_not_shown}
-use Rattle.sight_run.specs.Draw.{DrawCalls}
+use Rattle.map_picture.specs.Picture.{NamedParts}
+use Rattle.sight_run.specs.Draw.{DrawCalls, named_in}
 use Rattle.sight_run.specs.Obeys.{AnswersAsked}
 use Rattle.sight_run.specs.Reading.{found_of}
 use Rattle.sight_run.specs.Run.{put_all}
@@ -104,7 +105,7 @@ why_is_right words wad name pair ask files stand asked done =
 
 -- ---- the picture of a pair
 
-tells_drawn : (name : List ℕ) (m : Map) (pair : Pair) (g : MapGroups) (ask : Ask) (given : PairAnswer) (d : Drawing) → ShowsPair name m pair g ask given d → DecidesSectors m ask pair given → DecidesPair m ask pair given
+tells_drawn : (name : NamedParts) (m : Map) (pair : Pair) (g : MapGroups) (ask : Ask) (given : PairAnswer) (d : Drawing) → ShowsPair name m pair g ask given d → DecidesSectors m ask pair given → DecidesPair m ask pair given
 tells_drawn name m pair g ask (answer.Sight ray) d shows h = h
 tells_drawn name m pair g ask answer.Blind d shows h = h
 tells_drawn name m pair g ask answer.Touch d shows h = h
@@ -122,12 +123,12 @@ drawn_pair_is_right words wad name out pair ask files stand asked done =
     on (Ok found) drawn is left put h =
         let x = h.1 in
         let plan = found_plan wad name files found is in
-        let s = given_shown name found.map pair x.groups ask x.called.given x.called.shown x.called.shows in
+        let s = given_shown (named_in found name) found.map pair x.groups ask x.called.given x.called.shown x.called.shows in
         record {
           found = found;
           is_found = is;
           given = x.called.given;
-          decides = tells_drawn name found.map pair x.groups ask x.called.given x.called.shown x.called.shows (decided found.map plan x.over.faces ask pair x.called.given x.called.is_answer);
+          decides = tells_drawn (named_in found name) found.map pair x.groups ask x.called.given x.called.shown x.called.shows (decided found.map plan x.over.faces ask pair x.called.given x.called.is_answer);
           groups = x.groups;
           over = x.over;
           shown = x.called.shown;

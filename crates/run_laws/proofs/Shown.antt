@@ -10,7 +10,7 @@ use Rattle.map_picture.specs.declared.pair.Stop.{Stop}
 use Rattle.map_picture.specs.Bytes.{svg_of}
 use Rattle.map_picture.specs.declared.sheet.Subject.{Subject}
 use Rattle.map_picture.specs.declared.sheet.Subject.TheVariants as subject
-use Rattle.map_picture.specs.Picture.{Element, Entered, Stops, blind_picture, numbered, pair_faces, pair_picture, pair_rings, pair_tint, sight_elements, sight_picture}
+use Rattle.map_picture.specs.Picture.{NamedParts, Element, Entered, Stops, blind_picture, numbered, pair_faces, pair_picture, pair_rings, pair_tint, sight_elements, sight_picture}
 use Rattle.map_picture.specs.Laws.{HasNoLine, ShowsFaces, ShowsLines, TellsPair as TellsFaces}
 use Rattle.map_picture.proofs.Faced.{blind_faces, no_line_in_faces, pair_shown, sight_faces}
 use Rattle.map_picture.proofs.Ids.{no_line_entered, no_line_rings, no_line_sight, no_line_stops}
@@ -27,7 +27,7 @@ pub record IsShownPair (m : Map) (pair : Pair) (g : MapGroups) (d : Drawing) : T
   pub lines : ShowsLines m picture
   pub faces : ShowsFaces g.groups g.triangles g.labels (TellsFaces pair.a pair.b) picture
 
-module _ (name : List ℕ) (m : Map) (pair : Pair) (g : MapGroups) where
+module _ (name : NamedParts) (m : Map) (pair : Pair) (g : MapGroups) where
   abbrev of_pair : Subject
   of_pair = subject.Pair pair.a pair.b
 

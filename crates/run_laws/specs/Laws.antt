@@ -47,7 +47,7 @@ use Rattle.sight_run.specs.Check.{IsTableOf, reject_of, yes_row}
 use Rattle.map_answers.specs.Groups.{IsOverGroups, MapGroups}
 use Rattle.map_answers.specs.Input.{LocatedMap, map_named}
 use Rattle.map_picture.specs.Bytes.{svg_of}
-use Rattle.map_picture.specs.Picture.{heat_picture, marked_picture, plan_picture, row_picture}
+use Rattle.map_picture.specs.Picture.{NamedParts, heat_picture, marked_picture, plan_picture, row_picture}
 use Rattle.pair_answer.specs.declared.answer.PairAnswer.{PairAnswer}
 use Rattle.pair_answer.specs.Answer.{IsAnswerFor, IsMissing}
 use Rattle.draw_answers.specs.Drawn.{Drawing}
@@ -58,6 +58,7 @@ use Rattle.draw_answers.specs.Pair.{ShowsPair}
 use Rattle.reject_bits.specs.Parts.{TableParts}
 use Rattle.sight_run.specs.Heard.{Heard}
 use Rattle.sight_run.specs.Reading.{found_of}
+use Rattle.sight_run.specs.Draw.{named_in}
 use Rattle.sight_run.specs.Obeys.{IsAnswer}
 use Rattle.sight_run.specs.Run.{NothingRose, RunEnds, StatusCause, put_all}
 use Rattle.sight_run.specs.Words.{asked_of}
@@ -167,29 +168,29 @@ pub record LeavesPicture (out : List ℕ) (files stand : Files) (IsPicture : Lis
   pub others : (name : List ℕ) → bytes_eq out name ≡ false → stand name ≡ files name
 
 -- the plan with the faces of the groups
-pub record ShowsPlan (name : List ℕ) (m : Map) (bytes : List ℕ) : Type 0 where
+pub record ShowsPlan (name : NamedParts) (m : Map) (bytes : List ℕ) : Type 0 where
   pub groups : MapGroups
   pub over : IsOverGroups m groups
   pub is : bytes ≡ svg_of m (plan_picture name m groups.groups groups.triangles groups.labels)
 
 -- the plan alone, with what this flaw calls for marked
-pub record ShowsMarked (name : List ℕ) (m : Map) (which : Flaw) (bytes : List ℕ) : Type 0 where
+pub record ShowsMarked (name : NamedParts) (m : Map) (which : Flaw) (bytes : List ℕ) : Type 0 where
   pub marks : FaultMarks
   pub are : AreMarksOf m which marks
   pub is : bytes ≡ svg_of m (marked_picture name m marks.left_out marks.lines marks.faults marks.arrows)
 
-abbrev pub ShowsFault : List ℕ → Map → List ℕ → Option Flaw → Type 0
+abbrev pub ShowsFault : NamedParts → Map → List ℕ → Option Flaw → Type 0
 ShowsFault name m bytes (Some which) = ShowsMarked name m which bytes
 ShowsFault name m bytes None = ShowsPlan name m bytes
 
 -- the first fault of the map, if it has one
-pub record ShowsFaults (name : List ℕ) (m : Map) (bytes : List ℕ) : Type 0 where
+pub record ShowsFaults (name : NamedParts) (m : Map) (bytes : List ℕ) : Type 0 where
   pub fault : Option Flaw
   pub first : IsFaultOf m fault
   pub is : ShowsFault name m bytes fault
 
 -- the faces of the groups, by the row of sector a in a table that the bytes of the map's own REJECT spell
-pub record ShowsRow (name : List ℕ) (found : LocatedMap) (a : ℕ) (bytes : List ℕ) : Type 0 where
+pub record ShowsRow (name : NamedParts) (found : LocatedMap) (a : ℕ) (bytes : List ℕ) : Type 0 where
   pub within : a < found.map.sectors
   pub table : TableParts
   pub spelled : IsTableOf found.map.sectors (reject_of found) table
@@ -198,7 +199,7 @@ pub record ShowsRow (name : List ℕ) (found : LocatedMap) (a : ℕ) (bytes : Li
   pub is : bytes ≡ svg_of found.map (row_picture name found.map groups.groups groups.triangles groups.labels table a)
 
 -- .. by how much each sector may see by such a table
-pub record ShowsHeat (name : List ℕ) (found : LocatedMap) (bytes : List ℕ) : Type 0 where
+pub record ShowsHeat (name : NamedParts) (found : LocatedMap) (bytes : List ℕ) : Type 0 where
   pub table : TableParts
   pub spelled : IsTableOf found.map.sectors (reject_of found) table
   pub groups : MapGroups
@@ -206,7 +207,7 @@ pub record ShowsHeat (name : List ℕ) (found : LocatedMap) (bytes : List ℕ) :
   pub is : bytes ≡ svg_of found.map (heat_picture name found.map groups.groups groups.triangles groups.labels (seen_by table groups.groups))
 
 -- what an answer for the pair calls for
-pub record ShowsAnswer (name : List ℕ) (m : Map) (pair : Pair) (ask : Ask) (bytes : List ℕ) : Type 0 where
+pub record ShowsAnswer (name : NamedParts) (m : Map) (pair : Pair) (ask : Ask) (bytes : List ℕ) : Type 0 where
   pub given : PairAnswer
   pub is_answer : IsAnswerFor m ask pair given
   pub groups : MapGroups
@@ -215,18 +216,19 @@ pub record ShowsAnswer (name : List ℕ) (m : Map) (pair : Pair) (ask : Ask) (by
   pub shows : ShowsPair name m pair groups ask given shown
   pub is : bytes ≡ shown.bytes
 
-abbrev pub ShowsView : List ℕ → LocatedMap → View → List ℕ → Type 0
+abbrev pub ShowsView : NamedParts → LocatedMap → View → List ℕ → Type 0
 ShowsView name found view.Plan bytes = ShowsPlan name found.map bytes
 ShowsView name found view.Faults bytes = ShowsFaults name found.map bytes
 ShowsView name found (view.Row a) bytes = ShowsRow name found a bytes
 ShowsView name found view.Heat bytes = ShowsHeat name found bytes
 ShowsView name found (view.Pair pair ask) bytes = ShowsAnswer name found.map pair ask bytes
 
--- the name finds a map in the WAD, and the bytes are those of its picture in this view
+-- The name finds a map in the WAD, and the bytes are those of its picture in this view, which tells lengths in map units by the unit of
+-- the map's own text.
 pub record IsPictureOf (wad : Source) (name : List ℕ) (view : View) (files : Files) (bytes : List ℕ) : Type 0 where
   pub found : LocatedMap
   pub was : found_of wad name files ≡ Ok found
-  pub shows : ShowsView name found view bytes
+  pub shows : ShowsView (named_in found name) found view bytes
 
 -- Where `draw` is answered, OUT holds the picture that it asks for, and all other files are as they were.
 abbrev pub DrawLeavesPicture : Type 0

@@ -31,6 +31,7 @@ use Rattle.pair_answer.specs.WhyAnswers.Why.{said_of}
 use Rattle.draw_answers.specs.Drawn.{Drawing}
 use Rattle.draw_answers.specs.Laws.{InEntered, InFaceOf}
 use Rattle.draw_answers.specs.Pair.{IsEnteredOver, ShowsPair}
+use Rattle.sight_run.specs.Draw.{named_in}
 use Rattle.sight_run.specs.Reading.{found_of}
 use Rattle.sight_run.specs.Words.{asked_of}
 use Rattle.run_laws.specs.Headline.{WasDone}
@@ -100,7 +101,7 @@ pub record DrawsOfPair (wad : Source) (name out : List ℕ) (pair : Pair) (ask :
   pub groups : MapGroups
   pub over : IsOverGroups found.map groups
   pub shown : Drawing
-  pub shows : ShowsPair name found.map pair groups ask given shown
+  pub shows : ShowsPair (named_in found name) found.map pair groups ask given shown
   pub encloses : (budget : Budget) (a : ℕ) (e : Entered) → IsEnteredOver groups budget a e → EnclosesSight found.map groups a e
   pub picture : List Element
   pub is_picture : shown.bytes ≡ svg_of found.map picture

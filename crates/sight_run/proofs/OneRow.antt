@@ -13,7 +13,7 @@ use Rattle.map_picture.specs.declared.rings.Letter.TheVariants as letter
 use Rattle.map_picture.specs.declared.sheet.Subject.TheVariants as subject
 use Rattle.map_picture.specs.declared.tint.Tint.TheVariants as tint
 use Rattle.map_picture.specs.Bytes.{svg_of}
-use Rattle.map_picture.specs.Picture.{faces_from, heat_picture, most_of, picture_of, ring_of}
+use Rattle.map_picture.specs.Picture.{NamedParts, faces_from, heat_picture, most_of, picture_of, ring_of}
 use Rattle.map_answers.specs.declared.sight_status.status.Flaw.TheVariants as flaw
 use Rattle.map_answers.specs.declared.sight_status.status.Why.TheVariants as why
 use Rattle.map_answers.specs.declared.sight_status.status.Status.TheVariants as status
@@ -46,14 +46,14 @@ module _ (n : ℕ) (bytes : List ℕ) (t u : TableParts) (is : IsTableOf n bytes
     | inr past ↦ spare_clear n bytes t is k past ∙ sym (spare_clear n bytes u other k past)
   ]
 
-  module _ (name out : List ℕ) (m : Map) where
+  module _ (name : NamedParts) (out : List ℕ) (m : Map) where
     one_row : (a : ℕ) (g : MapGroups) → row_drawing name m t a g ≡ row_drawing name m u a g
     unfolding set_in_row
     one_row a g = λ i. record {
       bytes = svg_of m (picture_of name (subject.Row a) m
           (faces_from g.triangles g.labels 0 (map (λ names. if list_any (λ b. b == a) names then tint.Source else if list_all (λ b. bits (a * sectors i + b) i == 1) names then tint.Set else tint.Clear) g.groups) g.groups)
           (ring_of m g.groups g.triangles g.labels letter.A a));
-      line = row_line_of name a (count_by (λ b. bits (a * sectors i + b) i == 1) (range_with_len 0 (sectors i)))
+      line = row_line_of name.text a (count_by (λ b. bits (a * sectors i + b) i == 1) (range_with_len 0 (sectors i)))
           (sectors i - count_by (λ b. bits (a * sectors i + b) i == 1) (range_with_len 0 (sectors i)));
     }
 
@@ -62,7 +62,7 @@ module _ (n : ℕ) (bytes : List ℕ) (t u : TableParts) (is : IsTableOf n bytes
     one_count a = λ i. sectors i - count_by (λ b. bits (a * sectors i + b) i == 1) (range_with_len 0 (sectors i))
 
     abbrev heat_with : MapGroups → (List ℕ → ℕ) → Drawing
-    heat_with g count = record { bytes = svg_of m (heat_picture name m g.groups g.triangles g.labels (map count g.groups)); line = heat_line_of name (most_of (map count g.groups)) }
+    heat_with g count = record { bytes = svg_of m (heat_picture name m g.groups g.triangles g.labels (map count g.groups)); line = heat_line_of name.text (most_of (map count g.groups)) }
 
     one_heat : (g : MapGroups) → heat_drawing name m t g ≡ heat_drawing name m u g
     one_heat g = λ i. heat_with g (λ names. most_of (map (λ a. one_count a i) names))
@@ -87,8 +87,8 @@ module _ (m : Map) (One Other : MapGroups → Result Answer Status → Type 0) (
 abbrev pub IsFixed : Map → (TableParts → Result Answer Status → Type 0) → Type 0
 IsFixed m Called = (bytes : List ℕ) (t u : TableParts) (r : Result Answer Status) → IsTableOf m.sectors bytes t → IsTableOf m.sectors bytes u → Called u r → Called t r
 
-pub row_fixed : (name out : List ℕ) (a : ℕ) (m : Map) → IsFixed m (λ t. DrawRowCalls name out t a m)
+pub row_fixed : (name : NamedParts) (out : List ℕ) (a : ℕ) (m : Map) → IsFixed m (λ t. DrawRowCalls name out t a m)
 row_fixed name out a m bytes t u r is other q = audited_too m (RowCall name out m t a) (RowCall name out m u a) (row_too m.sectors bytes t u is other name out m a) r q
 
-pub heat_fixed : (name out : List ℕ) (m : Map) → IsFixed m (λ t. DrawHeatCalls name out t m)
+pub heat_fixed : (name : NamedParts) (out : List ℕ) (m : Map) → IsFixed m (λ t. DrawHeatCalls name out t m)
 heat_fixed name out m bytes t u r is other q = audited_too m (HeatCall name out m t) (HeatCall name out m u) (heat_too m.sectors bytes t u is other name out m) r q

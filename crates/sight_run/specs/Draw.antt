@@ -9,7 +9,9 @@ use Rattle.map_answers.specs.declared.sight_status.status.Status.TheVariants as 
 use Rattle.map_answers.specs.declared.sight_status.status.Why.TheVariants as why
 use Rattle.map_answers.specs.SightStatus.Answer.{Answer}
 use Rattle.map_answers.specs.SightStatus.Status.{IsOfTableTest}
-use Rattle.map_answers.specs.Input.{LocatedMap}
+use Rattle.map_answers.specs.Input.{LocatedMap, lump_at}
+use Rattle.map_picture.specs.Picture.{NamedParts}
+use Rattle.table_verdicts.specs.MapList.Entry.{places_in}
 use Rattle.draw_answers.specs.Drawn.{IsOfDrawTest}
 use Rattle.draw_answers.specs.Faults.{DrawFaultsCalls}
 use Rattle.draw_answers.specs.Heat.{DrawHeatCalls}
@@ -35,21 +37,33 @@ module _ (Called : TableParts → Result Answer Status → Type 0) (m : Map) whe
 abbrev pub ByOwnTable : (TableParts → Result Answer Status → Type 0) → LocatedMap → Result Answer Status → Type 0
 ByOwnTable Called found answer = OnTable Called found.map (of_length found.map.sectors (reject_of found)) answer
 
+-- the decimal places of the unit in which the points of a map are told
+abbrev pub places_of_map : LocatedMap → ℕ
+places_of_map found = places_in found.spot.format (lump_at found.wad found.spot.linedefs)
+
+-- how the map is named in its pictures
+abbrev pub named_in : LocatedMap → List ℕ → NamedParts
+named_in found name = record { text = name; places = places_of_map found }
+
 -- the answers to a row of the map's own table
-abbrev pub RowOfMap : List ℕ → List ℕ → ℕ → LocatedMap → Result Answer Status → Type 0
+abbrev pub RowOfMap : NamedParts → List ℕ → ℕ → LocatedMap → Result Answer Status → Type 0
 RowOfMap name out a found answer = ByOwnTable (λ t. DrawRowCalls name out t a found.map) found answer
 
 -- .. and to how much each sector may see by it
-abbrev pub HeatOfMap : List ℕ → List ℕ → LocatedMap → Result Answer Status → Type 0
+abbrev pub HeatOfMap : NamedParts → List ℕ → LocatedMap → Result Answer Status → Type 0
 HeatOfMap name out found answer = ByOwnTable (λ t. DrawHeatCalls name out t found.map) found answer
 
--- the answers that `draw` calls for
+-- the answers that a view of a map of this name calls for
+abbrev pub ViewCalls : NamedParts → List ℕ → View → LocatedMap → Result Answer Status → Type 0
+ViewCalls name out view.Plan found answer = DrawPlanCalls name out found.map answer
+ViewCalls name out view.Faults found answer = DrawFaultsCalls name out found.map answer
+ViewCalls name out (view.Row a) found answer = RowOfMap name out a found answer
+ViewCalls name out view.Heat found answer = HeatOfMap name out found answer
+ViewCalls name out (view.Pair pair budget) found answer = DrawPairCalls name out budget pair found.map answer
+
+-- the answers that `draw` calls for: its picture tells lengths in map units, by the unit of the map that was found
 abbrev pub DrawCalls : List ℕ → List ℕ → View → LocatedMap → Result Answer Status → Type 0
-DrawCalls name out view.Plan found answer = DrawPlanCalls name out found.map answer
-DrawCalls name out view.Faults found answer = DrawFaultsCalls name out found.map answer
-DrawCalls name out (view.Row a) found answer = RowOfMap name out a found answer
-DrawCalls name out view.Heat found answer = HeatOfMap name out found answer
-DrawCalls name out (view.Pair pair budget) found answer = DrawPairCalls name out budget pair found.map answer
+DrawCalls name out asked found answer = ViewCalls (named_in found name) out asked found answer
 
 -- what drawing can end with once a map is found
 abbrev pub IsOfDrawing : Status → Type 0

@@ -3,21 +3,25 @@
 ghost use Rattle.std.specs.Prelude.{◌≡◌, ◌∷◌, [], IfErr, IfOk, List, Ok, ℕ, true, ⊤};
 ghost use Rattle.draw_answers.specs.Drawn.{drawn_answer};
 ghost use Rattle.map_answers.specs.declared.sight_status.status.Role.TheVariants.{Picture};
+ghost use Rattle.map_answers.specs.declared.sight_status.status.Status.TheVariants as status;
+ghost use Rattle.map_answers.specs.Input.{lump_at};
 ghost use Rattle.map_answers.specs.Views.{IsWhole, found};
 ghost use Rattle.map_answers.specs.SightStatus.Answer.{Gives};
-ghost use Rattle.sight_run.specs.Draw.{DrawCalls, HasOneDrawing, HeatOfMap, IsOfDrawing, RowOfMap};
+ghost use Rattle.sight_run.specs.Draw.{DrawCalls, HasOneDrawing, HeatOfMap, IsOfDrawing, RowOfMap, ViewCalls, places_of_map};
 ghost use Rattle.sight_run.specs.Reply.{reply_seen, roles_of, writes};
 
 use crate::check::{reject, table_of};
 use crate::reply::{Reply, one_output};
 use draw_answers::{Drawn, draw_faults, draw_heat, draw_pair, draw_plan, draw_row};
-use map_answers::Input;
 use map_answers::sight_status::{Role, Status};
+use map_answers::{Input, lump_of};
+use map_picture::Named;
 use order_words::View;
 use std::alloc::Global;
+use table_verdicts::map_list::places_of;
 
 /// The picture of the row of a sector in the map's own table.
-fn draw_row_of(alloc: Global, input: &Input, name: &str, a: u16) -> Result<Drawn, Status>
+fn draw_row_of(alloc: Global, input: &Input, name: &Named<'_>, a: u16) -> Result<Drawn, Status>
     requires { IsWhole input.now }
     ensures judged { (out : List ℕ) → Gives ⊤ (RowOfMap name.now out a (found input.now)) (drawn_answer out result) }
     ensures refusals { IfErr result IsOfDrawing }
@@ -28,7 +32,7 @@ fn draw_row_of(alloc: Global, input: &Input, name: &str, a: u16) -> Result<Drawn
 }
 
 /// The picture of how much each sector may see by the map's own table.
-fn draw_heat_of(alloc: Global, input: &Input, name: &str) -> Result<Drawn, Status>
+fn draw_heat_of(alloc: Global, input: &Input, name: &Named<'_>) -> Result<Drawn, Status>
     requires { IsWhole input.now }
     ensures judged { (out : List ℕ) → Gives ⊤ (HeatOfMap name.now out (found input.now)) (drawn_answer out result) }
     ensures refusals { IfErr result IsOfDrawing }
@@ -39,9 +43,9 @@ fn draw_heat_of(alloc: Global, input: &Input, name: &str) -> Result<Drawn, Statu
 }
 
 /// What is drawn of a map that was found.
-fn draw_view(alloc: Global, input: &Input, name: &str, view: View) -> Result<Drawn, Status>
+fn draw_view(alloc: Global, input: &Input, name: &Named<'_>, view: View) -> Result<Drawn, Status>
     requires { IsWhole input.now }
-    ensures judged { (out : List ℕ) → Gives (HasOneDrawing view (Ok (found input.now))) (DrawCalls name.now out view (found input.now)) (drawn_answer out result) }
+    ensures judged { (out : List ℕ) → Gives (HasOneDrawing view (Ok (found input.now))) (ViewCalls name.now out view (found input.now)) (drawn_answer out result) }
     ensures refusals { IfErr result IsOfDrawing }
 {
     match view {
@@ -51,6 +55,42 @@ fn draw_view(alloc: Global, input: &Input, name: &str, view: View) -> Result<Dra
         View::Heat => draw_heat_of(alloc, input, name),
         View::Pair { pair, budget } => draw_pair(alloc, &input.plan, name, budget, pair),
     }
+}
+
+/// The bytes of the map's LINEDEFS, or of its text.
+fn linedefs_of(input: &Input) -> &[u8]
+    requires { IsWhole input.now }
+    ensures { result.now ≡ lump_at (found input.now).wad (found input.now).spot.linedefs }
+{
+    let k = input.spot.linedefs;
+    if (k as usize) < input.wad.entries.as_slice().len() {
+        lump_of(&input.bytes, &input.wad, k)
+    } else {
+        &[]
+    }
+}
+
+/// The decimal places of the unit in which the map's points are told.
+fn map_places(alloc: Global, input: &Input) -> Result<u8, Status>
+    requires { IsWhole input.now }
+    ensures places { IfOk result (λ places. places ≡ places_of_map (found input.now)) }
+    ensures refusals { IfErr result (λ s. s ≡ status.Memory tt) }
+{
+    match places_of(alloc, input.spot.format, linedefs_of(input)) {
+        Ok(places) => Ok(places),
+        Err(memory) => Err(Status::Memory(memory)),
+    }
+}
+
+/// What is drawn of a map of this name that was found.
+fn draw_named(alloc: Global, input: &Input, name: &str, view: View) -> Result<Drawn, Status>
+    requires { IsWhole input.now }
+    ensures judged { (out : List ℕ) → Gives (HasOneDrawing view (Ok (found input.now))) (DrawCalls name.now out view (found input.now)) (drawn_answer out result) }
+    ensures refusals { IfErr result IsOfDrawing }
+{
+    let places = map_places(alloc, input)?;
+    let named = Named { text: name, places };
+    draw_view(alloc, input, &named, view)
 }
 
 /// What the order `draw` makes of a map that was found.
@@ -67,7 +107,7 @@ pub fn make_drawing(
     ensures roles { IfOk result (λ reply. roles_of (writes reply) ≡ Picture ∷ []) }
     ensures right { IfOk result (λ reply. reply.right ≡ true) }
 {
-    let drawn = draw_view(alloc, input, name, view)?;
+    let drawn = draw_named(alloc, input, name, view)?;
     match one_output(alloc, Role::Picture, out, drawn.picture, drawn.line) {
         Ok(reply) => Ok(reply),
         Err(refused) => Err(Status::Memory(refused.into())),

@@ -12,3 +12,4 @@ mod unit;
 pub use entry::{ListedFormat, MapEntry, MapSizes, Said};
 pub use listing::{MapList, list_maps};
 pub use tally::{ListTally, tally_line};
+pub use unit::places_of;

@@ -20,11 +20,17 @@ use Rattle.table_verdicts.specs.declared.map_list.entry.Said.{Said}
 use Rattle.table_verdicts.specs.declared.map_list.entry.Said.TheVariants as said
 use Rattle.table_verdicts.specs.declared.map_list.entry.MapEntry.{MapEntry}
 
--- how the format of a map is listed whose LINEDEFS, or whose text, has these bytes
+-- the decimal places of the unit in which the points of a map are told whose LINEDEFS, or whose text, has these bytes
+abbrev pub places_in : MapFormat → List ℕ → ℕ
+places_in formats.Doom linedefs = 0
+places_in formats.Hexen linedefs = 0
+places_in formats.Text text = places_told text
+
+-- how the format of such a map is listed
 abbrev pub listed_format : MapFormat → List ℕ → ListedFormat
 listed_format formats.Doom linedefs = Doom
 listed_format formats.Hexen linedefs = Hexen
-listed_format formats.Text text = Udmf (places_told text)
+listed_format formats.Text text = Udmf (places_in formats.Text text)
 
 -- the format of the map of a name, Doom's where there is none
 abbrev pub format_named : WadFile → List ℕ → ListedFormat

@@ -8,11 +8,11 @@ ghost use Rattle.table_verdicts.specs.MapList.Entry.{entry_named, format_named, 
 
 use crate::map_list::entry::{ListedFormat, MapEntry, Said};
 use crate::map_list::sizes::sizes_of;
+use crate::map_list::unit::places_of;
 use map_answers::sight_status::Status;
 use map_answers::{lump_of, plan_named};
 use sight_names::{MapFormat, Memory};
 use std::alloc::Global;
-use udmf_map::text_places;
 use wad_dir::all_maps::text_of;
 use wad_dir::{Wad, find_map};
 use whole_wad::reject_named;
@@ -25,7 +25,7 @@ fn listed_format(alloc: Global, format: MapFormat, linedefs: &[u8]) -> Result<Li
         MapFormat::Doom => Ok(ListedFormat::Doom),
         MapFormat::Hexen => Ok(ListedFormat::Hexen),
         MapFormat::Text => Ok(ListedFormat::Udmf {
-            places: text_places(alloc, linedefs)?,
+            places: places_of(alloc, format, linedefs)?,
         }),
     }
 }

@@ -1,10 +1,23 @@
 //! The unit in which the points of a map are told.
 
-ghost use Rattle.std.specs.Prelude.{◌≡◌, ◌++◌, OnOk, replicate, string_bytes};
+ghost use Rattle.std.specs.Prelude.{◌≡◌, ◌++◌, IfOk, OnOk, replicate, string_bytes};
+ghost use Rattle.table_verdicts.specs.MapList.Entry.{places_in};
 ghost use Rattle.table_verdicts.specs.MapList.Lines.{unit_of};
 
 use map_answers::sight_status::push_text;
-use std::alloc::AllocError;
+use sight_names::{MapFormat, Memory};
+use std::alloc::{AllocError, Global};
+use udmf_map::text_places;
+
+/// The decimal places of the unit in which the points of a map are told whose LINEDEFS, or whose text, has these bytes.
+pub fn places_of(alloc: Global, format: MapFormat, linedefs: &[u8]) -> Result<u8, Memory>
+    ensures { IfOk result (λ places. places ≡ places_in format linedefs.now) }
+{
+    match format {
+        MapFormat::Doom | MapFormat::Hexen => Ok(0),
+        MapFormat::Text => text_places(alloc, linedefs),
+    }
+}
 
 /// Adds so many zeros.
 fn push_zeros(line: &mut String, count: u8) -> Result<(), AllocError>
