@@ -259,7 +259,8 @@ try_ears() {
     echo "ears: $audited maps audited, with $clashes clashes and $open open sides; $asked pairs as the program says"
 }
 
-# Each map turned to UDMF: by the library out of its text as by the program; so with decimals, and with too many of them.
+# Each map turned to UDMF: by the library out of its text as by the program; so with decimals, and with too many of them. Both tell
+# the same unit.
 try_udmf() {
     client udmf heap.o
     built=0 refused=0
@@ -271,7 +272,9 @@ try_udmf() {
                 status=$?
                 [ $status = 7 ] && continue
                 if [ $status = 0 ]; then
-                    with_stack 128 ./udmf text.wad "$map" out.wad out.cert >said || fail "$map of UDMF: $(head -3 said)"
+                    unit=$("$program" maps text.wad | sed -n "s/^$map udmf unit 0\.\(0*1\) .*/\1/p")
+                    PLACES=${#unit} with_stack 128 ./udmf text.wad "$map" out.wad out.cert >said ||
+                        fail "$map of UDMF: $(head -3 said)"
                     built=$((built + 1))
                 else
                     with_stack 128 ./udmf text.wad "$map" >said

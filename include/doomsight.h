@@ -112,7 +112,7 @@ enum doomsight_kind {
     DOOMSIGHT_TEXT_NAMESPACE = 71,
     DOOMSIGHT_TEXT_VALUE = 72,
     DOOMSIGHT_TEXT_PORTAL = 73,      /* at: the block of the line, counted from 0 */
-    DOOMSIGHT_TEXT_OFF_GRID = 74,    /* at: the block of the vertex, counted from 0 */
+    DOOMSIGHT_TEXT_OFF_GRID = 74,    /* at: the block of the vertex, or its record in lumps with DOOMSIGHT_UDMF, counted from 0 */
     /* LIMIT, of a text of UDMF */
     DOOMSIGHT_TEXT_VERTICES = 75,
     DOOMSIGHT_TEXT_SIDES = 76
@@ -211,7 +211,7 @@ DOOMSIGHT_HOLDS(sizeof(doomsight_fault) == 32 && sizeof(doomsight_counts) == 40 
 #define DOOMSIGHT_EXACT (UINT64_MAX - 1)
 
 /* UDMF is the format of the lumps that doomsight_udmf_map writes: Doom's, but that the coordinates in VERTEXES have 32 bits.
- * It writes none that is farther than 2^25 from 0. In VERTEXES of other origin such a coordinate isn't refused: it counts as 0. */
+ * It writes none that is farther than 2^25 from 0. In VERTEXES of other origin such a coordinate is refused, as TEXT_OFF_GRID. */
 enum doomsight_format { DOOMSIGHT_DOOM = 0, DOOMSIGHT_HEXEN = 1, DOOMSIGHT_UDMF = 2 };
 
 /* Flags. LARGE is the program's --large: at most 16384 sectors, 32768 lines and 16383 points. */
@@ -283,6 +283,7 @@ int32_t doomsight_audit_buffers(const uint8_t *linedefs, size_t linedefs_size, c
 int32_t doomsight_udmf_buffers(const uint8_t *text, size_t text_size, uint8_t *linedefs, size_t linedefs_room, uint8_t *sidedefs,
     size_t sidedefs_room, uint8_t *vertexes, size_t vertexes_room, uint8_t *sectors, size_t sectors_room, doomsight_lump_sizes *sizes,
     doomsight_fault *fault);
+int32_t doomsight_udmf_places(const uint8_t *text, size_t text_size, uint8_t *places, doomsight_fault *fault);
 
 /* Writes 1, 2, 3 and so on into the fields, in the order in which they stand above. Where they read otherwise, this header isn't
  * that of the library, or the compiler lays out structs in another way. */
@@ -426,7 +427,7 @@ static inline int32_t doomsight_audit(const doomsight_map *map, const doomsight_
  *     }
  *
  * Records stand in the order of their blocks. Coordinates are in the map's unit: the most decimal places that a vertex of a line has
- * tell it. The map points into the block, which the caller frees behind it. The answers are
+ * tell it, and doomsight_udmf_unit has them. The map points into the block, which the caller frees behind it. The answers are
  * DOOMSIGHT_OK, or the code of the fault; then nothing but *fault was written. */
 static inline int32_t doomsight_udmf_sizes(const void *text, size_t size, doomsight_lump_sizes *sizes, doomsight_fault *fault)
 {
@@ -466,6 +467,15 @@ static inline int32_t doomsight_udmf_map(const void *text, size_t size, const do
     map->sectors.size = (size_t)sizes->sectors;
     map->format = DOOMSIGHT_UDMF;
     return code;
+}
+
+/* How many decimal places the map's unit has: 3 where coordinates are told in thousandths of a map unit, 0 for a map on whole
+ * coordinates, and for a text that doomsight_udmf_sizes refuses. The answer is DOOMSIGHT_OK, or DOOMSIGHT_MEMORY; then nothing but
+ * *fault was written. */
+static inline int32_t doomsight_udmf_unit(const void *text, size_t size, uint8_t *places, doomsight_fault *fault)
+{
+    if (doomsight_is_other(fault)) return DOOMSIGHT_USAGE;
+    return doomsight_udmf_places(doomsight_some(text), text ? size : 0, places, fault);
 }
 
 /* ---- A hook, by which a long call shows that it goes on, and is stopped. It is asked before each block of memory that a call takes
@@ -566,7 +576,7 @@ static inline const char *doomsight_kind_text(uint32_t kind)
     case DOOMSIGHT_TEXT_NAMESPACE: return "the text has no namespace that is read";
     case DOOMSIGHT_TEXT_VALUE: return "a value in the text isn't of the kind that its key takes";
     case DOOMSIGHT_TEXT_PORTAL: return "a line of the text may show a far place";
-    case DOOMSIGHT_TEXT_OFF_GRID: return "a vertex of a line isn't on whole coordinates";
+    case DOOMSIGHT_TEXT_OFF_GRID: return "a vertex is too far away, or isn't on the map's grid";
     case DOOMSIGHT_TEXT_VERTICES: return "too many vertices in the text";
     case DOOMSIGHT_TEXT_SIDES: return "too many sides in the text";
     }

@@ -72,6 +72,41 @@ static void try_cut(doomsight_lump text)
     expect("sizes of nothing", !memcmp(&sizes, &same, sizeof same));
 }
 
+/* The unit of the map's coordinates, as `maps` of the program tells it in PLACES; none for what is no text. */
+static void try_unit(doomsight_lump text)
+{
+    const char *want = getenv("PLACES");
+    doomsight_fault fault;
+    uint8_t places = 77;
+    expect("a unit", doomsight_udmf_unit(text.bytes, text.size, &places, &fault) == DOOMSIGHT_OK && fault.code == 0);
+    expect("the unit that the program tells", !want || places == atoi(want));
+    places = 77;
+    expect("the unit of no text", doomsight_udmf_unit(NULL, 0, &places, &fault) == DOOMSIGHT_OK && places == 0);
+}
+
+/* The last vertex one unit beyond 2^25: a refusal of each call that reads the lumps, which tells the vertex. */
+static void try_far(const doomsight_map *map)
+{
+    static const uint8_t beyond[4] = {1, 0, 0, 2};
+    doomsight_options options = {DOOMSIGHT_EXACT, 0};
+    doomsight_kept kept = DOOMSIGHT_NOTHING_KEPT;
+    doomsight_map far = *map;
+    doomsight_counts counts;
+    doomsight_answer answer;
+    doomsight_fault fault;
+    uint64_t last = map->vertexes.size / 8 - 1;
+    uint8_t *vertexes = (uint8_t *)malloc(map->vertexes.size);
+    if (!vertexes) exit(92);
+    memcpy(vertexes, map->vertexes.bytes, map->vertexes.size);
+    memcpy(vertexes + 8 * last, beyond, 4);
+    far.vertexes.bytes = vertexes;
+    expect("a far vertex is kept", doomsight_keep(&far, &options, &kept, &counts, &fault) == DOOMSIGHT_BAD_LUMP &&
+        fault.kind == DOOMSIGHT_TEXT_OFF_GRID && fault.at == last);
+    expect("a far vertex sees", doomsight_why(&far, &options, 0, 0, &answer, &fault) == DOOMSIGHT_BAD_LUMP &&
+        fault.kind == DOOMSIGHT_TEXT_OFF_GRID && fault.at == last);
+    free(vertexes);
+}
+
 static void compare(doomsight_kept *kept, const uint8_t *table, size_t size, char **argv)
 {
     struct bytes out = slurp(argv[3]), cert = slurp(argv[4]);
@@ -108,7 +143,9 @@ int main(int argc, char **argv)
     if (code) return refused(code, &fault);
     try_halves(text, &map, &sizes);
     try_cut(text);
+    try_unit(text);
     code = doomsight_keep(&map, &options, &kept, &counts, &fault);
+    if (code != DOOMSIGHT_BAD_LUMP && code != DOOMSIGHT_LIMIT) try_far(&map);
     if (code) {
         code = refused(code, &fault);
     } else {

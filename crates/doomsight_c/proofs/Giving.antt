@@ -4,8 +4,10 @@ use Rattle.std.specs.Prelude.{⊤}
 use Rattle.sight_names.specs.declared.faults.LumpFault.{LumpFault}
 use Rattle.sight_names.specs.declared.faults.LumpFault.TheVariants as lump
 use Rattle.sight_names.specs.declared.names.Method.{Method}
+use Rattle.sight_names.specs.declared.names.Reading.{Reading}
+use Rattle.sight_names.specs.Lumps.{lump_fault, map_of_lumps}
 use Rattle.sight_names.specs.Map.{Map, map_of}
-use Rattle.map_answers.specs.Input.{of_lumps}
+use Rattle.map_answers.specs.Input.{of_four_lumps, of_lumps}
 use Rattle.map_answers.specs.Sound.{IsAuditRefusal}
 use Rattle.map_answers.specs.declared.sight_status.status.Flaw.TheVariants as flaw
 use Rattle.map_answers.specs.declared.sight_status.status.Status.{Status}
@@ -19,6 +21,7 @@ use Rattle.doomsight_c.specs.declared.fault.DoomsightFault.{DoomsightFault}
 use Rattle.doomsight_c.specs.Built.{IsBuiltFor, IsGiven, IsNoTable, IsPut, Refuses, table_size}
 use Rattle.doomsight_c.specs.Faults.{fault_view, wide}
 use Rattle.doomsight_c.specs.Lines.{IsOfLibrary, status_in}
+use Rattle.doomsight_c.specs.Lumps.{far_vertex, of_lumps_given, unless_far}
 
 -- ---- what four lumps are refused with
 
@@ -26,7 +29,7 @@ abbrev pub IsLibrarys : Result Map Status → Type 0
 IsLibrarys (Ok m) = ⊤
 IsLibrarys (Err s) = IsOfLibrary s
 
-pub of_lumps_is_librarys : (fault : Option LumpFault) (m : Map) → IsLibrarys (of_lumps fault m)
+of_lumps_is_librarys : (fault : Option LumpFault) (m : Map) → IsLibrarys (of_lumps fault m)
 of_lumps_is_librarys None m = tt
 of_lumps_is_librarys (Some (lump.BadSize l)) m = tt
 of_lumps_is_librarys (Some (lump.TooManySectors count)) m = tt
@@ -36,6 +39,17 @@ of_lumps_is_librarys (Some (lump.BadSide line)) m = tt
 of_lumps_is_librarys (Some (lump.BadSector side)) m = tt
 of_lumps_is_librarys (Some (lump.TooManyPoints count)) m = tt
 of_lumps_is_librarys (Some (lump.Memory _)) m = tt
+
+unless_far_is_librarys : (far : Option ℕ) (read : Result Map Status) → IsLibrarys read → IsLibrarys (unless_far far read)
+unless_far_is_librarys None (Ok m) h = tt
+unless_far_is_librarys (Some k) (Ok m) h = tt
+unless_far_is_librarys None (Err s) h = h
+unless_far_is_librarys (Some k) (Err s) h = h
+
+pub given_is_librarys : (reading : Reading) (linedefs sidedefs vertexes sectors : List ℕ) → IsLibrarys (of_lumps_given reading linedefs sidedefs vertexes sectors)
+given_is_librarys reading linedefs sidedefs vertexes sectors =
+    unless_far_is_librarys (far_vertex reading.format vertexes) (of_four_lumps reading linedefs sidedefs vertexes sectors)
+    (of_lumps_is_librarys (lump_fault reading linedefs sidedefs vertexes sectors) (map_of_lumps reading.format linedefs sidedefs vertexes sectors))
 
 -- .. is of the library
 pub of_reading : (read : Result Map Status) → IsLibrarys read → (s : Status) → IsOfBytes s → Makes map_of (Err s) read → IsOfLibrary s

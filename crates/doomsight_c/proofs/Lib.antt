@@ -1,4 +1,5 @@
 pub mod Giving
+pub mod FarVertices
 pub mod Judging
 pub mod Handles
 pub mod KeptBuilds

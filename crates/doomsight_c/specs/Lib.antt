@@ -1,6 +1,7 @@
 pub mod Faults
 pub mod Asked
 pub mod Lines
+pub mod Lumps
 pub mod Built
 pub mod Checked
 pub mod Handle

@@ -5,14 +5,14 @@ ghost use Rattle.mesh_shape.specs.Fills.{FillsSides};
 ghost use Rattle.sight_names.specs.Map.{map_of};
 ghost use Rattle.sight_names.specs.Mesh.{IsMeshOf, IsPlainMesh};
 ghost use Rattle.sight_names.specs.Sound.{LinesMeetAtEnds};
-ghost use Rattle.map_answers.specs.Input.{of_four_lumps};
+ghost use Rattle.doomsight_c.specs.Lumps.{of_lumps_given};
 ghost use Rattle.doomsight_c.specs.Audited.{AreBetween, AreOfFaces, IsAuditFor, IsAuditOf, IsUnaudited, counts_of as counts_told};
 
 use crate::fault::{DoomsightFault, fault_of};
 use crate::flaw::{DoomsightFlaw, DoomsightFlawCounts};
 use crate::line::faults_tell_statuses;
+use crate::lumps::plan_given;
 use crate::tell::tell_all;
-use map_answers::plan_of;
 use map_answers::sight_status::Status;
 use map_faults::{Gap, Tear, clashes_of, gaps_of, loose_ends_of, open_sides_of, tears_of};
 use mesh_shape::Mesh;
@@ -141,12 +141,12 @@ pub fn audit_lumps(
     vertexes: &[u8],
     sectors: &[u8],
 ) -> Result<Audit, DoomsightFault>
-    ensures audit { IfOk result (λ a. IsAuditFor (of_four_lumps reading linedefs.now sidedefs.now vertexes.now sectors.now) a.all.items a.counts) }
-    ensures refused { IfErr result (IsUnaudited (of_four_lumps reading linedefs.now sidedefs.now vertexes.now sectors.now)) }
+    ensures audit { IfOk result (λ a. IsAuditFor (of_lumps_given reading linedefs.now sidedefs.now vertexes.now sectors.now) a.all.items a.counts) }
+    ensures refused { IfErr result (IsUnaudited (of_lumps_given reading linedefs.now sidedefs.now vertexes.now sectors.now)) }
     ensures code { IfErr result (λ f. f.code ≢ 0) }
 {
     faults_tell_statuses();
-    match plan_of(alloc, reading, linedefs, sidedefs, vertexes, sectors) {
+    match plan_given(alloc, reading, linedefs, sidedefs, vertexes, sectors) {
         Ok(plan) => audit_plan(alloc, &plan),
         Err(status) => Err(fault_of(&status)),
     }

@@ -3,7 +3,7 @@
 ghost use Rattle.std.specs.Prelude.{◌≡◌, ◌≢◌, IfErr, IfOk, Ok};
 ghost use Rattle.sight_names.specs.Map.{map_of};
 ghost use Rattle.sight_names.specs.declared.names.Method.TheVariants.{Exact, Within};
-ghost use Rattle.map_answers.specs.Input.{of_four_lumps};
+ghost use Rattle.doomsight_c.specs.Lumps.{of_lumps_given};
 ghost use Rattle.map_answers.specs.Sound.{HasSoundLines};
 ghost use Rattle.reject_bits.specs.Parts.{IsWhole};
 ghost use Rattle.whole_wad.specs.Built.{AreBytes, Builds};
@@ -11,12 +11,13 @@ ghost use Rattle.doomsight_c.specs.Built.{IsBuiltFor, IsNoTable, table_size as s
 
 use crate::fault::{DoomsightFault, fault_of, wide};
 use crate::line::faults_tell_statuses;
+use crate::lumps::plan_given;
 use certificates::Certificate;
 use exact_job::build_exact_alone;
 use face_groups::GroupFault;
 use group_job::build_table_alone;
+use map_answers::audit_lines_of;
 use map_answers::sight_status::{Flaw, Status};
-use map_answers::{audit_lines_of, plan_of};
 use reject_bits::Table;
 use sight_names::{Ask, Items, Method, Plan, Reading};
 use sight_workers::OpenGate;
@@ -160,12 +161,12 @@ pub fn build_lumps(
     method: Method,
     room: usize,
 ) -> Result<Built, DoomsightFault>
-    ensures built { IfOk result (IsBuiltFor (of_four_lumps reading linedefs.now sidedefs.now vertexes.now sectors.now) method room) }
-    ensures refused { IfErr result (IsNoTable (of_four_lumps reading linedefs.now sidedefs.now vertexes.now sectors.now) room) }
+    ensures built { IfOk result (IsBuiltFor (of_lumps_given reading linedefs.now sidedefs.now vertexes.now sectors.now) method room) }
+    ensures refused { IfErr result (IsNoTable (of_lumps_given reading linedefs.now sidedefs.now vertexes.now sectors.now) room) }
     ensures code { IfErr result (λ f. f.code ≢ 0) }
 {
     faults_tell_statuses();
-    match plan_of(alloc, reading, linedefs, sidedefs, vertexes, sectors) {
+    match plan_given(alloc, reading, linedefs, sidedefs, vertexes, sectors) {
         Ok(plan) => build_plan(alloc, &plan, method, room),
         Err(status) => Err(fault_of(&status)),
     }

@@ -3,19 +3,20 @@
 ghost use Rattle.std.specs.Prelude.{◌≡◌, ◌≢◌, IfErr, IfOk, Ok};
 ghost use Rattle.sight_names.specs.Map.{map_of};
 ghost use Rattle.sight_names.specs.Sound.{LinesMeetAtEnds};
-ghost use Rattle.map_answers.specs.Input.{of_four_lumps};
+ghost use Rattle.doomsight_c.specs.Lumps.{of_lumps_given};
 ghost use Rattle.map_answers.specs.Sound.{HasSoundLines};
 ghost use Rattle.doomsight_c.specs.Checked.{ChecksMap, IsJudgement, IsUnproved, IsYes, TakesTable, VerdictOf};
 
 use crate::counts::{DoomsightCounts, counts_of_totals};
 use crate::fault::{DoomsightFault, fault_of};
 use crate::line::faults_tell_statuses;
+use crate::lumps::plan_given;
 use any_judge::Judge;
 use cert_checker::Totals;
 use cert_judge::Judged;
 use group_checker::{AnyFault, AnyVerdict};
+use map_answers::audit_lines_of;
 use map_answers::sight_status::{Status, Why};
-use map_answers::{audit_lines_of, plan_of};
 use reject_bits::Table;
 use sight_names::{CertFault, Memory, Plan, Reading, TableFault};
 use std::alloc::Global;
@@ -112,12 +113,12 @@ pub fn check_lumps(
     reject: &[u8],
     cert: &[u8],
 ) -> Result<DoomsightCounts, DoomsightFault>
-    ensures yes { IfOk result (IsYes (of_four_lumps reading linedefs.now sidedefs.now vertexes.now sectors.now) reject.now cert.now) }
-    ensures no { IfErr result (IsUnproved (of_four_lumps reading linedefs.now sidedefs.now vertexes.now sectors.now) reject.now cert.now) }
+    ensures yes { IfOk result (IsYes (of_lumps_given reading linedefs.now sidedefs.now vertexes.now sectors.now) reject.now cert.now) }
+    ensures no { IfErr result (IsUnproved (of_lumps_given reading linedefs.now sidedefs.now vertexes.now sectors.now) reject.now cert.now) }
     ensures code { IfErr result (λ f. f.code ≢ 0) }
 {
     faults_tell_statuses();
-    match plan_of(alloc, reading, linedefs, sidedefs, vertexes, sectors) {
+    match plan_given(alloc, reading, linedefs, sidedefs, vertexes, sectors) {
         Ok(plan) => check_counted(alloc, &plan, reject, cert),
         Err(status) => Err(fault_of(&status)),
     }

@@ -1,7 +1,7 @@
 //! The functions by which C asks of a map what is at fault in it, and whether two of its sectors see each other.
 
 ghost use Rattle.std.specs.Prelude.{◌≡◌, ◌≢◌, IfErr, IfOk, None, OnErr, OnOk, Some, pos};
-ghost use Rattle.map_answers.specs.Input.{of_four_lumps};
+ghost use Rattle.doomsight_c.specs.Lumps.{of_lumps_given};
 ghost use Rattle.doomsight_c.specs.Asked.{method_of as method_meant, reading_fault as reading_wrong, reading_of as reading_meant};
 ghost use Rattle.doomsight_c.specs.Audited.{IsAudited, IsNotAudited};
 ghost use Rattle.doomsight_c.specs.Faults.{no_fault};
@@ -73,8 +73,8 @@ fn try_why(
     b: u32,
 ) -> Result<DoomsightAnswer, DoomsightFault>
     ensures asked { OnOk result (pair_wrong format flags budget a b ≡ None) }
-    ensures said { IfOk result (IsSaid (of_four_lumps (reading_meant format flags) linedefs.now sidedefs.now vertexes.now sectors.now) (ask_meant (method_meant budget)) (pair_meant a b)) }
-    ensures refused { IfErr result (IsNotSaid (pair_wrong format flags budget a b) (of_four_lumps (reading_meant format flags) linedefs.now sidedefs.now vertexes.now sectors.now) (pair_meant a b)) }
+    ensures said { IfOk result (IsSaid (of_lumps_given (reading_meant format flags) linedefs.now sidedefs.now vertexes.now sectors.now) (ask_meant (method_meant budget)) (pair_meant a b)) }
+    ensures refused { IfErr result (IsNotSaid (pair_wrong format flags budget a b) (of_lumps_given (reading_meant format flags) linedefs.now sidedefs.now vertexes.now sectors.now) (pair_meant a b)) }
     ensures code { IfErr result (λ f. f.code ≢ 0) }
 {
     let pair = pair_asked(format, flags, budget, a, b)?;
@@ -108,8 +108,8 @@ pub extern "C" fn doomsight_why_buffers(
     fault: &mut DoomsightFault,
 ) -> i32
     ensures asked { result ≡ pos 0 → pair_wrong format flags budget a b ≡ None }
-    ensures said { result ≡ pos 0 → IsSaid (of_four_lumps (reading_meant format flags) linedefs.now sidedefs.now vertexes.now sectors.now) (ask_meant (method_meant budget)) (pair_meant a b) answer.new }
-    ensures refused { result ≢ pos 0 → IsNotSaid (pair_wrong format flags budget a b) (of_four_lumps (reading_meant format flags) linedefs.now sidedefs.now vertexes.now sectors.now) (pair_meant a b) fault.new }
+    ensures said { result ≡ pos 0 → IsSaid (of_lumps_given (reading_meant format flags) linedefs.now sidedefs.now vertexes.now sectors.now) (ask_meant (method_meant budget)) (pair_meant a b) answer.new }
+    ensures refused { result ≢ pos 0 → IsNotSaid (pair_wrong format flags budget a b) (of_lumps_given (reading_meant format flags) linedefs.now sidedefs.now vertexes.now sectors.now) (pair_meant a b) fault.new }
     ensures done { result ≡ pos 0 → fault.new ≡ no_fault }
     ensures code { result ≢ pos 0 → result ≡ pos fault.new.code }
     ensures kept { result ≢ pos 0 → answer.new ≡ answer.old }
@@ -141,8 +141,8 @@ fn try_audit(
     flaws: &mut [DoomsightFlaw],
 ) -> Result<DoomsightFlawCounts, DoomsightFault>
     ensures asked { OnOk result (reading_wrong format flags ≡ None) }
-    ensures audited { IfOk result (IsAudited (of_four_lumps (reading_meant format flags) linedefs.now sidedefs.now vertexes.now sectors.now) flaws.old flaws.new) }
-    ensures refused { IfErr result (IsNotAudited (reading_wrong format flags) (of_four_lumps (reading_meant format flags) linedefs.now sidedefs.now vertexes.now sectors.now)) }
+    ensures audited { IfOk result (IsAudited (of_lumps_given (reading_meant format flags) linedefs.now sidedefs.now vertexes.now sectors.now) flaws.old flaws.new) }
+    ensures refused { IfErr result (IsNotAudited (reading_wrong format flags) (of_lumps_given (reading_meant format flags) linedefs.now sidedefs.now vertexes.now sectors.now)) }
     ensures code { IfErr result (λ f. f.code ≢ 0) }
     ensures kept { OnErr result (flaws.new ≡ flaws.old) }
 {
@@ -177,8 +177,8 @@ pub extern "C" fn doomsight_audit_buffers(
     fault: &mut DoomsightFault,
 ) -> i32
     ensures asked { result ≡ pos 0 → reading_wrong format flags ≡ None }
-    ensures audited { result ≡ pos 0 → IsAudited (of_four_lumps (reading_meant format flags) linedefs.now sidedefs.now vertexes.now sectors.now) flaws.old flaws.new counts.new }
-    ensures refused { result ≢ pos 0 → IsNotAudited (reading_wrong format flags) (of_four_lumps (reading_meant format flags) linedefs.now sidedefs.now vertexes.now sectors.now) fault.new }
+    ensures audited { result ≡ pos 0 → IsAudited (of_lumps_given (reading_meant format flags) linedefs.now sidedefs.now vertexes.now sectors.now) flaws.old flaws.new counts.new }
+    ensures refused { result ≢ pos 0 → IsNotAudited (reading_wrong format flags) (of_lumps_given (reading_meant format flags) linedefs.now sidedefs.now vertexes.now sectors.now) fault.new }
     ensures done { result ≡ pos 0 → fault.new ≡ no_fault }
     ensures code { result ≢ pos 0 → result ≡ pos fault.new.code }
     ensures kept { result ≢ pos 0 → (flaws.new ≡ flaws.old) × (counts.new ≡ counts.old) }

@@ -2,7 +2,7 @@
 
 ghost use Rattle.std.specs.Prelude.{◌≡◌, ◌≢◌, IfErr, IfOk, None, OnErr, OnOk, length, pos};
 ghost use Rattle.certificates.specs.Grammar.{IsInOrder};
-ghost use Rattle.map_answers.specs.Input.{of_four_lumps};
+ghost use Rattle.doomsight_c.specs.Lumps.{of_lumps_given};
 ghost use Rattle.map_answers.specs.SightStatus.Texts.{text_of};
 ghost use Rattle.doomsight_c.specs.Asked.{call_fault as call_wrong, method_of as method_meant, reading_fault as reading_wrong, reading_of as reading_meant};
 ghost use Rattle.doomsight_c.specs.Built.{IsGiven, IsNotBuilt, IsPut, table_size};
@@ -89,8 +89,8 @@ fn try_build(
     counts: &mut DoomsightCounts,
 ) -> Result<(), DoomsightFault>
     ensures asked { OnOk result (call_wrong format flags budget ≡ None) }
-    ensures given { OnOk result (IsGiven (of_four_lumps (reading_meant format flags) linedefs.now sidedefs.now vertexes.now sectors.now) (method_meant budget) reject.new cert.old cert.new counts.new) }
-    ensures refused { IfErr result (IsNotBuilt (call_wrong format flags budget) (of_four_lumps (reading_meant format flags) linedefs.now sidedefs.now vertexes.now sectors.now) (length reject.old)) }
+    ensures given { OnOk result (IsGiven (of_lumps_given (reading_meant format flags) linedefs.now sidedefs.now vertexes.now sectors.now) (method_meant budget) reject.new cert.old cert.new counts.new) }
+    ensures refused { IfErr result (IsNotBuilt (call_wrong format flags budget) (of_lumps_given (reading_meant format flags) linedefs.now sidedefs.now vertexes.now sectors.now) (length reject.old)) }
     ensures code { IfErr result (λ f. f.code ≢ 0) }
     ensures kept { OnErr result ((reject.new ≡ reject.old) × (cert.new ≡ cert.old) × (counts.new ≡ counts.old)) }
 {
@@ -129,8 +129,8 @@ pub extern "C" fn doomsight_build_buffers(
     fault: &mut DoomsightFault,
 ) -> i32
     ensures asked { result ≡ pos 0 → call_wrong format flags budget ≡ None }
-    ensures given { result ≡ pos 0 → IsGiven (of_four_lumps (reading_meant format flags) linedefs.now sidedefs.now vertexes.now sectors.now) (method_meant budget) reject.new cert.old cert.new counts.new }
-    ensures refused { result ≢ pos 0 → IsNotBuilt (call_wrong format flags budget) (of_four_lumps (reading_meant format flags) linedefs.now sidedefs.now vertexes.now sectors.now) (length reject.old) fault.new }
+    ensures given { result ≡ pos 0 → IsGiven (of_lumps_given (reading_meant format flags) linedefs.now sidedefs.now vertexes.now sectors.now) (method_meant budget) reject.new cert.old cert.new counts.new }
+    ensures refused { result ≢ pos 0 → IsNotBuilt (call_wrong format flags budget) (of_lumps_given (reading_meant format flags) linedefs.now sidedefs.now vertexes.now sectors.now) (length reject.old) fault.new }
     ensures done { result ≡ pos 0 → fault.new ≡ no_fault }
     ensures code { result ≢ pos 0 → result ≡ pos fault.new.code }
     ensures kept { result ≢ pos 0 → (reject.new ≡ reject.old) × (cert.new ≡ cert.old) × (counts.new ≡ counts.old) }
@@ -162,8 +162,8 @@ fn try_check(
     cert: &[u8],
 ) -> Result<DoomsightCounts, DoomsightFault>
     ensures asked { IfOk result (λ _. reading_wrong format flags ≡ None) }
-    ensures yes { IfOk result (IsYes (of_four_lumps (reading_meant format flags) linedefs.now sidedefs.now vertexes.now sectors.now) reject.now cert.now) }
-    ensures no { IfErr result (IsNotProved (reading_wrong format flags) (of_four_lumps (reading_meant format flags) linedefs.now sidedefs.now vertexes.now sectors.now) reject.now cert.now) }
+    ensures yes { IfOk result (IsYes (of_lumps_given (reading_meant format flags) linedefs.now sidedefs.now vertexes.now sectors.now) reject.now cert.now) }
+    ensures no { IfErr result (IsNotProved (reading_wrong format flags) (of_lumps_given (reading_meant format flags) linedefs.now sidedefs.now vertexes.now sectors.now) reject.now cert.now) }
     ensures code { IfErr result (λ f. f.code ≢ 0) }
 {
     if let Some(wrong) = reading_fault(format, flags) {
@@ -198,8 +198,8 @@ pub extern "C" fn doomsight_check_buffers(
     fault: &mut DoomsightFault,
 ) -> i32
     ensures asked { result ≡ pos 0 → reading_wrong format flags ≡ None }
-    ensures yes { result ≡ pos 0 → IsYes (of_four_lumps (reading_meant format flags) linedefs.now sidedefs.now vertexes.now sectors.now) reject.now cert.now counts.new }
-    ensures no { result ≢ pos 0 → IsNotProved (reading_wrong format flags) (of_four_lumps (reading_meant format flags) linedefs.now sidedefs.now vertexes.now sectors.now) reject.now cert.now fault.new }
+    ensures yes { result ≡ pos 0 → IsYes (of_lumps_given (reading_meant format flags) linedefs.now sidedefs.now vertexes.now sectors.now) reject.now cert.now counts.new }
+    ensures no { result ≢ pos 0 → IsNotProved (reading_wrong format flags) (of_lumps_given (reading_meant format flags) linedefs.now sidedefs.now vertexes.now sectors.now) reject.now cert.now fault.new }
     ensures done { result ≡ pos 0 → fault.new ≡ no_fault }
     ensures code { result ≢ pos 0 → result ≡ pos fault.new.code }
     ensures kept { result ≢ pos 0 → counts.new ≡ counts.old }

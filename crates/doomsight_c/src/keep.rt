@@ -3,7 +3,7 @@
 ghost use Rattle.std.specs.Prelude.{◌≢◌, IfErr, IfOk, Ok};
 ghost use Rattle.sight_names.specs.Map.{map_of};
 ghost use Rattle.certificates.specs.Grammar.{IsInOrder};
-ghost use Rattle.map_answers.specs.Input.{of_four_lumps};
+ghost use Rattle.doomsight_c.specs.Lumps.{of_lumps_given};
 ghost use Rattle.map_answers.specs.Sound.{IsAuditRefusal};
 ghost use Rattle.doomsight_c.specs.Keeping.{HoldsWhole, IsCalledFor, IsKept, KeptIsGiven};
 
@@ -13,7 +13,7 @@ use crate::fault::{DoomsightFault, fault_of};
 use crate::handle::DoomsightKept;
 use crate::kept::spell_whole;
 use crate::line::faults_tell_statuses;
-use map_answers::plan_of;
+use crate::lumps::plan_given;
 use map_answers::sight_status::Status;
 use sight_names::{Memory, Method, Plan, Reading};
 use std::alloc::Global;
@@ -74,12 +74,12 @@ pub fn keep_lumps(
     sectors: &[u8],
     method: Method,
 ) -> Result<(DoomsightKept, DoomsightCounts), DoomsightFault>
-    ensures kept { IfOk result (λ r. IsKept (of_four_lumps reading linedefs.now sidedefs.now vertexes.now sectors.now) method r.0.value r.1) }
-    ensures refused { IfErr result (IsCalledFor (of_four_lumps reading linedefs.now sidedefs.now vertexes.now sectors.now)) }
+    ensures kept { IfOk result (λ r. IsKept (of_lumps_given reading linedefs.now sidedefs.now vertexes.now sectors.now) method r.0.value r.1) }
+    ensures refused { IfErr result (IsCalledFor (of_lumps_given reading linedefs.now sidedefs.now vertexes.now sectors.now)) }
     ensures code { IfErr result (λ f. f.code ≢ 0) }
 {
     faults_tell_statuses();
-    match plan_of(alloc, reading, linedefs, sidedefs, vertexes, sectors) {
+    match plan_given(alloc, reading, linedefs, sidedefs, vertexes, sectors) {
         Ok(plan) => keep_plan(alloc, &plan, method),
         Err(status) => Err(fault_of(&status)),
     }

@@ -1,7 +1,7 @@
 //! The functions by which C keeps a build: it is made once, copied in pieces of any size, and freed.
 
 ghost use Rattle.std.specs.Prelude.{◌≡◌, ◌≢◌, IfErr, IfOk, None, OnOk, length, pos};
-ghost use Rattle.map_answers.specs.Input.{of_four_lumps};
+ghost use Rattle.doomsight_c.specs.Lumps.{of_lumps_given};
 ghost use Rattle.doomsight_c.specs.Asked.{call_fault as call_wrong, method_of as method_meant, reading_of as reading_meant};
 ghost use Rattle.doomsight_c.specs.Faults.{no_fault};
 ghost use Rattle.doomsight_c.specs.Keeping.{IsKept, IsNotKept, cert_of, table_of};
@@ -27,8 +27,8 @@ fn try_keep(
     budget: u64,
 ) -> Result<(DoomsightKept, DoomsightCounts), DoomsightFault>
     ensures asked { OnOk result (call_wrong format flags budget ≡ None) }
-    ensures kept { IfOk result (λ r. IsKept (of_four_lumps (reading_meant format flags) linedefs.now sidedefs.now vertexes.now sectors.now) (method_meant budget) r.0.value r.1) }
-    ensures refused { IfErr result (IsNotKept (call_wrong format flags budget) (of_four_lumps (reading_meant format flags) linedefs.now sidedefs.now vertexes.now sectors.now)) }
+    ensures kept { IfOk result (λ r. IsKept (of_lumps_given (reading_meant format flags) linedefs.now sidedefs.now vertexes.now sectors.now) (method_meant budget) r.0.value r.1) }
+    ensures refused { IfErr result (IsNotKept (call_wrong format flags budget) (of_lumps_given (reading_meant format flags) linedefs.now sidedefs.now vertexes.now sectors.now)) }
     ensures code { IfErr result (λ f. f.code ≢ 0) }
 {
     if let Some(wrong) = call_fault(format, flags, budget) {
@@ -62,8 +62,8 @@ pub extern "C" fn doomsight_keep_buffers(
     fault: &mut DoomsightFault,
 ) -> i32
     ensures asked { result ≡ pos 0 → call_wrong format flags budget ≡ None }
-    ensures kept { result ≡ pos 0 → IsKept (of_four_lumps (reading_meant format flags) linedefs.now sidedefs.now vertexes.now sectors.now) (method_meant budget) kept.new.value counts.new }
-    ensures refused { result ≢ pos 0 → IsNotKept (call_wrong format flags budget) (of_four_lumps (reading_meant format flags) linedefs.now sidedefs.now vertexes.now sectors.now) fault.new }
+    ensures kept { result ≡ pos 0 → IsKept (of_lumps_given (reading_meant format flags) linedefs.now sidedefs.now vertexes.now sectors.now) (method_meant budget) kept.new.value counts.new }
+    ensures refused { result ≢ pos 0 → IsNotKept (call_wrong format flags budget) (of_lumps_given (reading_meant format flags) linedefs.now sidedefs.now vertexes.now sectors.now) fault.new }
     ensures done { result ≡ pos 0 → fault.new ≡ no_fault }
     ensures code { result ≢ pos 0 → result ≡ pos fault.new.code }
     ensures same { result ≢ pos 0 → (kept.new.value ≡ kept.old.value) × (counts.new ≡ counts.old) }

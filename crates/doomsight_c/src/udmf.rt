@@ -1,15 +1,16 @@
 //! The text of a map of UDMF as the four lumps that every call takes.
 
 ghost use Rattle.std.specs.Prelude.{◌≡◌, ◌≢◌, IfErr, IfOk, Ok, OnErr, OnOk, pos};
-ghost use Rattle.udmf_map.specs.Lumps.{lump_bytes, lumps_of_text as lumps_of_text_lem};
-ghost use Rattle.doomsight_c.specs.Faults.{no_fault};
+ghost use Rattle.map_answers.specs.declared.sight_status.status.Status.TheVariants as status;
+ghost use Rattle.udmf_map.specs.Lumps.{lump_bytes, lumps_of_text as lumps_of_text_lem, places_told};
+ghost use Rattle.doomsight_c.specs.Faults.{fault_view, no_fault};
 ghost use Rattle.doomsight_c.specs.Texts.{IsNoText, IsSpelledOut, PutsBytes, sizes_of, status_of_text as status_of_text_lem};
 
 use crate::fault::{DoomsightFault, fault_of, two};
 use crate::line::faults_tell_statuses;
 use map_answers::sight_status::{Bound, Status};
 use std::alloc::Global;
-use udmf_map::{FourLumps, TextFault, lumps_of_text};
+use udmf_map::{FourLumps, TextFault, lumps_of_text, text_places};
 
 /// How many bytes each of the four lumps has. To C the fields are at the bytes 0, 8, 16 and 24 of 32.
 #[repr(C)]
@@ -135,6 +136,35 @@ pub extern "C" fn doomsight_udmf_buffers(
         Err(why) => {
             *fault = why;
             i32::from(why.code)
+        }
+    }
+}
+
+/// How many decimal places the unit has in which `doomsight_udmf_buffers` tells coordinates of this text: they are so many of
+/// 10^-places of a map unit. It is 0 for a text that is no map. The answer is 0, or the code of want of memory; then nothing but the
+/// fault is written.
+#[unsafe(no_mangle)]
+pub extern "C" fn doomsight_udmf_places(
+    alloc: Global,
+    text: &[u8],
+    places: &mut u8,
+    fault: &mut DoomsightFault,
+) -> i32
+    ensures told { result ≡ pos 0 → places.new ≡ places_told text.now }
+    ensures done { result ≡ pos 0 → fault.new ≡ no_fault }
+    ensures refused { result ≢ pos 0 → fault.new ≡ fault_view (status.Memory tt) }
+    ensures code { result ≢ pos 0 → result ≡ pos fault.new.code }
+    ensures kept { result ≢ pos 0 → places.new ≡ places.old }
+{
+    match text_places(alloc, text) {
+        Ok(found) => {
+            *places = found;
+            *fault = two(0, 0, 0, 0);
+            0
+        }
+        Err(memory) => {
+            *fault = fault_of(&Status::Memory(memory));
+            i32::from(fault.code)
         }
     }
 }

@@ -3,15 +3,16 @@
 ghost use Rattle.std.specs.Prelude.{◌≡◌, ◌≢◌, IfErr, IfOk, Ok};
 ghost use Rattle.sight_names.specs.Map.{map_of};
 ghost use Rattle.map_answers.specs.Groups.{AreGroupsOver};
-ghost use Rattle.map_answers.specs.Input.{of_four_lumps};
+ghost use Rattle.doomsight_c.specs.Lumps.{of_lumps_given};
 ghost use Rattle.pair_answer.specs.Answer.{IsAnswerFor};
 ghost use Rattle.doomsight_c.specs.Said.{DeniesPair, IsAnswered, IsSaid, IsUnsaid, of_sectors as of_sectors_said};
 
 use crate::answer::{DoomsightAnswer, answer_of};
 use crate::fault::{DoomsightFault, fault_of};
 use crate::line::faults_tell_statuses;
+use crate::lumps::plan_given;
 use map_answers::sight_status::{Status, Why};
-use map_answers::{MeshGroups, audit_map, plan_of};
+use map_answers::{MeshGroups, audit_map};
 use pair_answer::laws::answers_tell_sight;
 use pair_answer::{PairAnswer, pair_answer};
 use sight_names::{Ask, Memory, Pair, Plan, Reading};
@@ -87,12 +88,12 @@ pub fn why_lumps(
     ask: Ask,
     pair: Pair,
 ) -> Result<DoomsightAnswer, DoomsightFault>
-    ensures said { IfOk result (IsSaid (of_four_lumps reading linedefs.now sidedefs.now vertexes.now sectors.now) ask pair) }
-    ensures refused { IfErr result (IsUnsaid (of_four_lumps reading linedefs.now sidedefs.now vertexes.now sectors.now) pair) }
+    ensures said { IfOk result (IsSaid (of_lumps_given reading linedefs.now sidedefs.now vertexes.now sectors.now) ask pair) }
+    ensures refused { IfErr result (IsUnsaid (of_lumps_given reading linedefs.now sidedefs.now vertexes.now sectors.now) pair) }
     ensures code { IfErr result (λ f. f.code ≢ 0) }
 {
     faults_tell_statuses();
-    match plan_of(alloc, reading, linedefs, sidedefs, vertexes, sectors) {
+    match plan_given(alloc, reading, linedefs, sidedefs, vertexes, sectors) {
         Ok(plan) => why_plan(alloc, &plan, ask, pair),
         Err(status) => Err(fault_of(&status)),
     }

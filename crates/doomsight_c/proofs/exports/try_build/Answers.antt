@@ -1,7 +1,7 @@
 use Rattle.std.proofs.Common.{length, subst}
 use Rattle.sight_names.specs.declared.names.Method.{Method}
 use Rattle.sight_names.specs.declared.names.Reading.{Reading}
-use Rattle.map_answers.specs.Input.{of_four_lumps}
+use Rattle.doomsight_c.specs.Lumps.{of_lumps_given}
 use Rattle.doomsight_c.specs.Asked.{method_of, reading_of}
 use Rattle.doomsight_c.specs.Built.{IsBuiltFor}
 use Rattle.doomsight_c.proofs.Giving.{given}
@@ -16,7 +16,7 @@ put-requires-clause-fits c = c.in_ok-built.ensures.built.fits
 pub returns-clause-given : goal.returns-clause-given
 returns-clause-given c =
     let a = c.args in
-    let read = λ (r : Reading). of_four_lumps r a.linedefs.now a.sidedefs.now a.vertexes.now a.sectors.now in
+    let read = λ (r : Reading). of_lumps_given r a.linedefs.now a.sidedefs.now a.vertexes.now a.sectors.now in
     let meant = reading_of a.format a.flags in
     let size = length a.reject.now in
     let b = c.in_ok-built.built in
