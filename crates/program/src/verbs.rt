@@ -254,7 +254,7 @@ pub static VERBS: [Verb; 14] = [
         spare: &[],
         choices: &[Choice::Only, Choice::Report, Choice::Json, Choice::Large],
         purpose: "lists the maps of a WAD, and what their tables hold",
-        about: "Lists the maps of the WAD, or those that are named: of each its format, how many\nlines, points and sectors it has, how many bytes its REJECT has of those that it\nhas to have, and how many bits of it are set. Writes nothing but the report.",
+        about: "Lists the maps of the WAD, or those that are named: of each its format, the unit of\na text with decimals, how many lines, points and sectors it has, how many bytes its\nREJECT has of those that it has to have, and how many bits of it are set. Writes\nnothing but the report.",
     },
     Verb {
         name: "audit",
