@@ -90,23 +90,36 @@ fn begun(
     }
 }
 
-// The parts that these pieces give.
-fn parts_in(alloc: Global, sizes: &Sizes, pieces: &[&[u8]]) -> Result<Vec<Part>, CertFault> {
-    let mut parts = Vec::new(alloc);
-    let mut kept = Vec::new(alloc);
+// Adds the parts that these pieces give. What comes before the first of them is kept.
+fn push_parts(
+    alloc: Global,
+    sizes: &Sizes,
+    pieces: &[&[u8]],
+    kept: &mut Vec<u8>,
+    parts: &mut Vec<Part>,
+) -> Result<(), CertFault> {
     let mut course = Err(0);
     for piece in pieces {
         if let Ok(reader) = &mut course {
-            add_parts(reader, piece, &mut parts)?;
+            add_parts(reader, piece, parts)?;
         } else {
             kept.extend_from_slice(piece)?;
-            course = begun(alloc, sizes, &kept, &mut parts)?;
+            course = begun(alloc, sizes, kept, parts)?;
         }
     }
     match course {
-        Ok(reader) => reader.end()?,
-        Err(at) => return Err(CertFault::Short { at }),
+        Ok(reader) => reader.end(),
+        Err(at) => Err(CertFault::Short { at }),
     }
+}
+
+// The parts that these pieces give. What is kept of them is freed at one way out.
+fn parts_in(alloc: Global, sizes: &Sizes, pieces: &[&[u8]]) -> Result<Vec<Part>, CertFault> {
+    let mut parts = Vec::new(alloc);
+    let mut kept = Vec::new(alloc);
+    let pushed = push_parts(alloc, sizes, pieces, &mut kept, &mut parts);
+    drop(kept);
+    pushed?;
     Ok(parts)
 }
 

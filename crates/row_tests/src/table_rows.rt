@@ -105,6 +105,10 @@ a=LINE3 | build a MAP01 b --cert c --budget 1 | 0 | built MAP01 sectors 3 set 0 
 | check b MAP01 c | 0 | yes sectors 3 set 0 clear 5 listed 1
 a=LINE3 | build a MAP01 --budget full b --cert=c | 0 | built MAP01 sectors 3 set 0 clear 6 listed 0 | b=LINE3 =0000
 | check b MAP01 c | 0 | yes sectors 3 set 0 clear 6 listed 0
+# U with a room of sector 3 behind line 8: within a budget of four sequences source 0, which has six, is spent, and source 2, which has four, isn't.
+# So the pairs (0, 2) and (2, 3) are set, and none is listed
+a=U .1 <07000a000100000000000e00ffff0a000b000100000000000e00ffff0b0006000100000000000e00ffff .2 <000000000000000000000000000000000000000000000000000000000300 .3 <4000c0ff0000c0ff .4 *104 @128:2:0400 @136:2:0e00 | build a MAP01 b --cert c --budget 4 | 0 | built MAP01 sectors 4 set 2 clear 8 listed 0 | b=U .1 <07000a000100000000000e00ffff0a000b000100000000000e00ffff0b0006000100000000000e00ffff .2 <000000000000000000000000000000000000000000000000000000000300 .3 <4000c0ff0000c0ff .4 *104 .5 =0449 @128:2:0400 @136:2:0e00
+| check b MAP01 c | 0 | yes sectors 4 set 2 clear 8 listed 0
 # every pair decided: the certificate is of version 3
 a=U | build a MAP01 b --exact --cert c | 0 | built MAP01 sectors 3 set 1 clear 5 listed 0 | b=U =4400, c<=#445343540300
 | check b MAP01 c | 0 | yes sectors 3 set 1 clear 5 listed 0

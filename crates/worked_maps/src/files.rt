@@ -4,6 +4,7 @@ use crate::certs::digits_named;
 use crate::maps::{Lines, NONE, RowLine, map_named};
 use crate::pictures::picture_named;
 use crate::rooms::made_rooms;
+use crate::texts::text_named;
 use map_lumps::hexen_lumps::to_hexen;
 use map_lumps::read_lumps;
 use map_maker::grid;
@@ -183,11 +184,14 @@ fn lines_of(alloc: Global, word: &str) -> Result<Option<Lines>, AllocError> {
     map_named(alloc, word)
 }
 
-// What a word makes of a lump's bytes: `=` and digits are its bytes, `<` and digits stand behind them, `*` and a number
-// are so many bytes 5a; `hexen` turns the records of LINEDEFS to Hexen's format.
+// What a word makes of a lump's bytes: `=` and digits are its bytes, `:` and the name of a text are those of the text, `<`
+// and digits stand behind them, `*` and a number are so many bytes 5a; `hexen` turns the records of LINEDEFS to Hexen's
+// format.
 fn change(alloc: Global, lump: &mut RowLump, word: &str) -> Result<(), AllocError> {
     if let Some(digits) = word.strip_prefix('=') {
         lump.bytes = bytes_of_digits(alloc, digits)?;
+    } else if let Some(name) = word.strip_prefix(':') {
+        lump.bytes = text_named(name).as_bytes().to_vec(alloc)?;
     } else if let Some(digits) = word.strip_prefix('<') {
         lump.bytes
             .extend_from_slice(&bytes_of_digits(alloc, digits)?)?;

@@ -9,3 +9,4 @@ pub mod pictures;
 pub mod rooms;
 pub mod rows;
 pub mod stages;
+pub mod texts;

@@ -188,6 +188,70 @@ const OPEN_FAULTS: &str = "\
 </svg>
 ";
 
+/// The plan of one room of MAP02 whose points have thousandths: its unit is one, and its scale tells map units.
+const THOUSANDTHS_PLAN: &str = "\
+<svg xmlns='http://www.w3.org/2000/svg' viewBox='-1291 -1291 67082 69289' width='1000' height='1032'>
+<title>MAP02</title>
+<style>path,circle{fill:none;stroke-linecap:round}.w,.u,.o{stroke:#000}.p{stroke:#9a9a9a}.k,.r{stroke:#d62728}.i{stroke:#fff}.a{fill:#1f77b4}.b{fill:#ff7f0e}.c{fill:#9ecae1}.s{fill:#e4e4e4}.f{fill:#a1d99b;stroke:#41ab5d}.k,.f,.u,.n{pointer-events:none}path,circle{stroke-width:54}.w,.o{stroke-width:108}.r,.u{stroke-width:162}.k{stroke-width:216}.i{stroke-width:324}@supports(vector-effect:non-scaling-stroke){path,circle{vector-effect:non-scaling-stroke;stroke-width:1}.f{stroke-width:.5}.w,.o{stroke-width:2}.r,.u{stroke-width:3}.k{stroke-width:4}.i{stroke-width:6}}.h0{fill:#ffffcc}.h1{fill:#ffeda0}.h2{fill:#fed976}.h3{fill:#feb24c}.h4{fill:#fd8d3c}.h5{fill:#fc4e2a}.h6{fill:#e31a1c}.h7{fill:#b10026}text{font:bold 1291px sans-serif;fill:#000;stroke:#fff;paint-order:stroke;stroke-width:322}@media(prefers-color-scheme:dark){.paper{fill:#181818}.w,.u,.o{stroke:#f2f2f2}.p{stroke:#8a8a8a}.k,.r{stroke:#ff6b6b}.a{fill:#4da3e8}.b{fill:#ff9a3c}.c{fill:#2c4f6e}.s{fill:#383838}.f{fill:#24592b;stroke:#74c476}.i{stroke:#181818}text{fill:#f2f2f2;stroke:#181818}.h0{fill:#2a1636}.h1{fill:#451a4a}.h2{fill:#65205a}.h3{fill:#872a5c}.h4{fill:#aa3655}.h5{fill:#cc4a49}.h6{fill:#e76a3c}.h7{fill:#f99a3e}}</style>
+<rect class='paper' fill='#fff' x='-1291' y='-1291' width='67082' height='69289'/>
+<path class='u' d='M0 66707H16000'/><text x='16000' y='66707' dx='.6em' dy='.36em' class='n'>16</text>
+<path class='s' id='G0' d='M0 64125L64500 63875L0 0z'><title>sector 0</title></path>
+<path class='w' id='L0' d='M0 64125L0 0'><title>0 front 0</title></path>
+<path class='w' id='L1' d='M0 0L64500 63875'><title>1 front 0</title></path>
+<path class='w' id='L2' d='M64500 63875L0 64125'><title>2 front 0</title></path>
+</svg>
+";
+
+/// The row of the one sector of a room in hundredths that is less than four map units wide: its scale is some tenths long.
+const SMALL_ROW: &str = "\
+<svg xmlns='http://www.w3.org/2000/svg' viewBox='-4 -4 158 141' width='1000' height='892'>
+<title>MAP02 row 0</title>
+<style>path,circle{fill:none;stroke-linecap:round}.w,.u,.o{stroke:#000}.p{stroke:#9a9a9a}.k,.r{stroke:#d62728}.i{stroke:#fff}.a{fill:#1f77b4}.b{fill:#ff7f0e}.c{fill:#9ecae1}.s{fill:#e4e4e4}.f{fill:#a1d99b;stroke:#41ab5d}.k,.f,.u,.n{pointer-events:none}path,circle{stroke-width:1}.w,.o{stroke-width:2}.r,.u{stroke-width:3}.k{stroke-width:4}.i{stroke-width:6}@supports(vector-effect:non-scaling-stroke){path,circle{vector-effect:non-scaling-stroke;stroke-width:1}.f{stroke-width:.5}.w,.o{stroke-width:2}.r,.u{stroke-width:3}.k{stroke-width:4}.i{stroke-width:6}}.h0{fill:#ffffcc}.h1{fill:#ffeda0}.h2{fill:#fed976}.h3{fill:#feb24c}.h4{fill:#fd8d3c}.h5{fill:#fc4e2a}.h6{fill:#e31a1c}.h7{fill:#b10026}text{font:bold 4px sans-serif;fill:#000;stroke:#fff;paint-order:stroke;stroke-width:1}@media(prefers-color-scheme:dark){.paper{fill:#181818}.w,.u,.o{stroke:#f2f2f2}.p{stroke:#8a8a8a}.k,.r{stroke:#ff6b6b}.a{fill:#4da3e8}.b{fill:#ff9a3c}.c{fill:#2c4f6e}.s{fill:#383838}.f{fill:#24592b;stroke:#74c476}.i{stroke:#181818}text{fill:#f2f2f2;stroke:#181818}.h0{fill:#2a1636}.h1{fill:#451a4a}.h2{fill:#65205a}.h3{fill:#872a5c}.h4{fill:#aa3655}.h5{fill:#cc4a49}.h6{fill:#e76a3c}.h7{fill:#f99a3e}}</style>
+<rect class='paper' fill='#fff' x='-4' y='-4' width='158' height='141'/>
+<path class='u' d='M0 133H30'/><text x='30' y='133' dx='.6em' dy='.36em' class='n'>0.3</text>
+<path class='a' id='G0' d='M0 125L150 75L0 0z'><title>sector 0</title></path>
+<path class='w' id='L0' d='M0 125L0 0'><title>0 front 0</title></path>
+<path class='w' id='L1' d='M0 0L150 75'><title>1 front 0</title></path>
+<path class='w' id='L2' d='M150 75L0 125'><title>2 front 0</title></path>
+<g><title>A: sector 0</title><circle class='i' cx='50' cy='66' r='4'/><circle class='o' cx='50' cy='66' r='4'/><text x='50' y='66' dx='1em' dy='-.5em'>A</text></g>
+</svg>
+";
+
+/// The pair of this sector with itself.
+const SMALL_PAIR: &str = "\
+<svg xmlns='http://www.w3.org/2000/svg' viewBox='-4 -4 158 141' width='1000' height='892'>
+<title>MAP02 pair 0 0</title>
+<style>path,circle{fill:none;stroke-linecap:round}.w,.u,.o{stroke:#000}.p{stroke:#9a9a9a}.k,.r{stroke:#d62728}.i{stroke:#fff}.a{fill:#1f77b4}.b{fill:#ff7f0e}.c{fill:#9ecae1}.s{fill:#e4e4e4}.f{fill:#a1d99b;stroke:#41ab5d}.k,.f,.u,.n{pointer-events:none}path,circle{stroke-width:1}.w,.o{stroke-width:2}.r,.u{stroke-width:3}.k{stroke-width:4}.i{stroke-width:6}@supports(vector-effect:non-scaling-stroke){path,circle{vector-effect:non-scaling-stroke;stroke-width:1}.f{stroke-width:.5}.w,.o{stroke-width:2}.r,.u{stroke-width:3}.k{stroke-width:4}.i{stroke-width:6}}.h0{fill:#ffffcc}.h1{fill:#ffeda0}.h2{fill:#fed976}.h3{fill:#feb24c}.h4{fill:#fd8d3c}.h5{fill:#fc4e2a}.h6{fill:#e31a1c}.h7{fill:#b10026}text{font:bold 4px sans-serif;fill:#000;stroke:#fff;paint-order:stroke;stroke-width:1}@media(prefers-color-scheme:dark){.paper{fill:#181818}.w,.u,.o{stroke:#f2f2f2}.p{stroke:#8a8a8a}.k,.r{stroke:#ff6b6b}.a{fill:#4da3e8}.b{fill:#ff9a3c}.c{fill:#2c4f6e}.s{fill:#383838}.f{fill:#24592b;stroke:#74c476}.i{stroke:#181818}text{fill:#f2f2f2;stroke:#181818}.h0{fill:#2a1636}.h1{fill:#451a4a}.h2{fill:#65205a}.h3{fill:#872a5c}.h4{fill:#aa3655}.h5{fill:#cc4a49}.h6{fill:#e76a3c}.h7{fill:#f99a3e}}</style>
+<rect class='paper' fill='#fff' x='-4' y='-4' width='158' height='141'/>
+<path class='u' d='M0 133H30'/><text x='30' y='133' dx='.6em' dy='.36em' class='n'>0.3</text>
+<path class='a' id='G0' d='M0 125L150 75L0 0z'><title>sector 0</title></path>
+<path class='w' id='L0' d='M0 125L0 0'><title>0 front 0</title></path>
+<path class='w' id='L1' d='M0 0L150 75'><title>1 front 0</title></path>
+<path class='w' id='L2' d='M150 75L0 125'><title>2 front 0</title></path>
+<g><title>A: sector 0</title><circle class='i' cx='50' cy='66' r='4'/><circle class='o' cx='50' cy='66' r='4'/><text x='50' y='66' dx='1em' dy='-.5em'>A</text></g>
+<g><title>B: sector 0</title><circle class='i' cx='50' cy='66' r='4'/><circle class='o' cx='50' cy='66' r='4'/><text x='50' y='66' dx='1em' dy='-.5em'>B</text></g>
+</svg>
+";
+
+/// The faults of the map OPEN in tenths: its titles and its scale tell map units.
+const TENTHS_FAULTS: &str = "\
+<svg xmlns='http://www.w3.org/2000/svg' viewBox='-2 -2 68 72' width='1000' height='1058'>
+<title>MAP02 faults</title>
+<style>path,circle{fill:none;stroke-linecap:round}.w,.u,.o{stroke:#000}.p{stroke:#9a9a9a}.k,.r{stroke:#d62728}.i{stroke:#fff}.a{fill:#1f77b4}.b{fill:#ff7f0e}.c{fill:#9ecae1}.s{fill:#e4e4e4}.f{fill:#a1d99b;stroke:#41ab5d}.k,.f,.u,.n{pointer-events:none}path,circle{stroke-width:1}.w,.o{stroke-width:2}.r,.u{stroke-width:3}.k{stroke-width:4}.i{stroke-width:6}@supports(vector-effect:non-scaling-stroke){path,circle{vector-effect:non-scaling-stroke;stroke-width:1}.f{stroke-width:.5}.w,.o{stroke-width:2}.r,.u{stroke-width:3}.k{stroke-width:4}.i{stroke-width:6}}.h0{fill:#ffffcc}.h1{fill:#ffeda0}.h2{fill:#fed976}.h3{fill:#feb24c}.h4{fill:#fd8d3c}.h5{fill:#fc4e2a}.h6{fill:#e31a1c}.h7{fill:#b10026}text{font:bold 2px sans-serif;fill:#000;stroke:#fff;paint-order:stroke;stroke-width:0}@media(prefers-color-scheme:dark){.paper{fill:#181818}.w,.u,.o{stroke:#f2f2f2}.p{stroke:#8a8a8a}.k,.r{stroke:#ff6b6b}.a{fill:#4da3e8}.b{fill:#ff9a3c}.c{fill:#2c4f6e}.s{fill:#383838}.f{fill:#24592b;stroke:#74c476}.i{stroke:#181818}text{fill:#f2f2f2;stroke:#181818}.h0{fill:#2a1636}.h1{fill:#451a4a}.h2{fill:#65205a}.h3{fill:#872a5c}.h4{fill:#aa3655}.h5{fill:#cc4a49}.h6{fill:#e76a3c}.h7{fill:#f99a3e}}</style>
+<rect class='paper' fill='#fff' x='-2' y='-2' width='68' height='72'/>
+<path class='u' d='M0 68H10'/><text x='10' y='68' dx='.6em' dy='.36em' class='n'>1</text>
+<path class='w' id='L0' d='M0 64L0 0'><title>0 front 0</title></path>
+<path class='w' id='L1' d='M0 0L64 0'><title>1 front 0</title></path>
+<path class='w' id='L2' d='M64 0L64 64'><title>2 front 0</title></path>
+<path class='k' id='fault' d='M0 64L0 0M0 0L64 0M64 0L64 64'/>
+<g><title>torn corner at 0, 0</title><circle class='i' cx='0' cy='64' r='2'/><circle class='r' cx='0' cy='64' r='2'/></g>
+<g><title>loose end of line 0 at 0, 0</title><circle class='i' cx='0' cy='64' r='2'/><circle class='r' cx='0' cy='64' r='2'/></g>
+<g><title>loose end of line 2 at 6.4, 0</title><circle class='i' cx='64' cy='64' r='2'/><circle class='r' cx='64' cy='64' r='2'/></g>
+<path class='r' d='M0 40L0 24L32 32z'><title>out round the torn corner at 0, 0</title></path>
+<path class='r' d='M24 40L40 24L32 64z'><title>out round the torn corner at 0, 0</title></path>
+</svg>
+";
+
 /// The picture of this name, empty where there is none.
 pub fn picture_named(name: &str) -> &'static str {
     match name {
@@ -199,6 +263,10 @@ pub fn picture_named(name: &str) -> &'static str {
         "TOUCHED-FAULTS" => TOUCHED_FAULTS,
         "CROSSED-FAULTS" => CROSSED_FAULTS,
         "OPEN-FAULTS" => OPEN_FAULTS,
+        "THOUSANDTHS-PLAN" => THOUSANDTHS_PLAN,
+        "SMALL-ROW" => SMALL_ROW,
+        "SMALL-PAIR" => SMALL_PAIR,
+        "TENTHS-FAULTS" => TENTHS_FAULTS,
         _ => "",
     }
 }
