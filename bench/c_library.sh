@@ -272,7 +272,8 @@ try_udmf() {
                 status=$?
                 [ $status = 7 ] && continue
                 if [ $status = 0 ]; then
-                    unit=$("$program" maps text.wad | sed -n "s/^$map udmf unit 0\.\(0*1\) .*/\1/p")
+                    "$program" maps text.wad --only "$map" --report units >/dev/null 2>&1
+                    unit=$(sed -n "s/^$map udmf unit 0\.\(0*1\) .*/\1/p" units)
                     PLACES=${#unit} with_stack 128 ./udmf text.wad "$map" out.wad out.cert >said ||
                         fail "$map of UDMF: $(head -3 said)"
                     built=$((built + 1))
