@@ -470,8 +470,8 @@ static inline int32_t doomsight_udmf_map(const void *text, size_t size, const do
 }
 
 /* How many decimal places the map's unit has: 3 where coordinates are told in thousandths of a map unit, 0 for a map on whole
- * coordinates, and for a text that doomsight_udmf_sizes refuses. The answer is DOOMSIGHT_OK, or DOOMSIGHT_MEMORY; then nothing but
- * *fault was written. */
+ * coordinates, and for bytes that are no text of UDMF. Of a text that spells no map it tells nothing: ask doomsight_udmf_sizes. The
+ * answer is DOOMSIGHT_OK, or DOOMSIGHT_MEMORY; then nothing but *fault was written. */
 static inline int32_t doomsight_udmf_unit(const void *text, size_t size, uint8_t *places, doomsight_fault *fault)
 {
     if (doomsight_is_other(fault)) return DOOMSIGHT_USAGE;

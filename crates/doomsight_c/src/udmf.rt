@@ -141,8 +141,8 @@ pub extern "C" fn doomsight_udmf_buffers(
 }
 
 /// How many decimal places the unit has in which `doomsight_udmf_buffers` tells coordinates of this text: they are so many of
-/// 10^-places of a map unit. It is 0 for a text that is no map. The answer is 0, or the code of want of memory; then nothing but the
-/// fault is written.
+/// 10^-places of a map unit. It is 0 for bytes that are no text, and tells nothing of one that spells no map. The answer is 0, or
+/// the code of want of memory; then nothing but the fault is written.
 #[unsafe(no_mangle)]
 pub extern "C" fn doomsight_udmf_places(
     alloc: Global,
