@@ -7,7 +7,7 @@ use sight_names::{Items, Pair, PairRay, Triangle};
 use std::marker::Model;
 
 /// The sizes of the map that a certificate is about: numbers of sectors, of points and of LINEDEFS records.
-#[derive(Clone, Copy, PartialEq, Eq)]
+#[derive(Clone, Copy)]
 pub struct Sizes {
     pub sectors: u16,
     pub points: u16,

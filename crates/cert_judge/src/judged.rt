@@ -4,7 +4,7 @@ use group_checker::AnyVerdict;
 use sight_names::CertFault;
 
 /// The bytes are no certificate of the map, and why; or the verdict on the certificate that they spell.
-#[derive(Clone, Copy, Debug, PartialEq, Eq)]
+#[derive(Clone, Copy, Debug)]
 pub enum Judged {
     Unread(CertFault),
     Verdict(AnyVerdict),

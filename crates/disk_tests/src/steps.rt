@@ -120,7 +120,8 @@ fn is_read<S: Shelf>(shelf: &mut S, text: &[u8], step: &str) -> bool {
     let wanted = between(text, step, 3, 4);
     let mut taken = [0; 16];
     let count = shelf.read(word(step, 1), number(word(step, 2)) as u64, &mut taken);
-    count == Ok(wanted.len()) && taken.get(..wanted.len()).unwrap_or(&[]) == wanted
+    matches!(count, Ok(n) if n == wanted.len())
+        && taken.get(..wanted.len()).unwrap_or(&[]) == wanted
 }
 
 // Whether a step that the adapter takes comes out as it has to; not so where it is no step.

@@ -7,7 +7,7 @@ use sight_names::{Memory, Side};
 use std::alloc::{AllocError, AllocFailed};
 
 /// Why the faces of a map have no groups.
-#[derive(Clone, Copy, Debug, PartialEq, Eq, thiserror::Error)]
+#[derive(Clone, Copy, Debug, thiserror::Error)]
 pub enum GroupFault {
     #[error("open {side}")]
     Open { side: Side },

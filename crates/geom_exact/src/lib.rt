@@ -15,7 +15,7 @@ use sight_names::{Pt, Ray};
 use std::cmp::Ordering;
 
 /// What two segments have in common.
-#[derive(Clone, Copy, PartialEq, Eq)]
+#[derive(Clone, Copy)]
 pub enum Relation {
     /// No point.
     Apart,

@@ -7,7 +7,7 @@ use cert_checker::{Totals, Verdict};
 use sight_names::CheckFault;
 
 /// Why a certificate isn't accepted. In the faults of version 2 sectors of rays and trees are groups.
-#[derive(Clone, Copy, Debug, PartialEq, Eq)]
+#[derive(Clone, Copy, Debug)]
 pub enum AnyFault {
     Check(CheckFault),
     /// What the table of groups has for this triangle isn't the list of the sectors that sides of its face name.
@@ -17,7 +17,7 @@ pub enum AnyFault {
 }
 
 /// The table is accepted, or the first fault in order.
-#[derive(Clone, Copy, Debug, PartialEq, Eq)]
+#[derive(Clone, Copy, Debug)]
 pub enum AnyVerdict {
     Yes(Totals),
     No(AnyFault),

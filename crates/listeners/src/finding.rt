@@ -1,7 +1,7 @@
 //! What is found of a pair of sectors, and what a listener answers to it.
 
 /// What is found of a pair.
-#[derive(Clone, Copy, Debug, PartialEq, Eq)]
+#[derive(Clone, Copy, PartialEq, Eq)]
 pub enum Kind {
     /// The two see each other: their bit is clear.
     Clear,
@@ -12,7 +12,7 @@ pub enum Kind {
 }
 
 /// A pair of sectors, `a` at most `b`, and what is found of it.
-#[derive(Clone, Copy, Debug, PartialEq, Eq)]
+#[derive(Clone, Copy)]
 pub struct Finding {
     pub a: u16,
     pub b: u16,
@@ -20,7 +20,7 @@ pub struct Finding {
 }
 
 /// Whether a listener hears on.
-#[derive(Clone, Copy, PartialEq, Eq)]
+#[derive(Clone, Copy)]
 pub enum Keep {
     Stay,
     Done,

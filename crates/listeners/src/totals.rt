@@ -11,7 +11,7 @@ use std::marker::Model;
 
 /// Counts the pairs, writes one line of the counts, as `total set 1 clear 5 listed 0`, and hears to the end. A contract sees it as what
 /// it heard.
-#[derive(Debug, Drop)]
+#[derive(Drop)]
 pub struct Totals {
     heard: Vec<Finding>,
     set: u64,

@@ -8,7 +8,7 @@ use reject_bits::Table;
 use std::alloc::{AllocError, Global};
 
 /// How many sectors a table has, and how many pairs (a, b) with a <= b are set, clear or listed.
-#[derive(Clone, Copy, PartialEq, Eq)]
+#[derive(Clone, Copy)]
 pub struct Counts {
     pub sectors: u16,
     pub set: u64,

@@ -98,7 +98,7 @@ fn is_clean_pair(plan: &Plan, i: u16, j: u16) -> bool
     ensures { IsTrue result → FineAt (map_of plan.now) i j }
 {
     match plan.line(i) {
-        Some(line) => fault_with(plan, i, line, j) == None,
+        Some(line) => fault_with(plan, i, line, j).is_none(),
         None => true,
     }
 }

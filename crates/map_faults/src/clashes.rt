@@ -19,7 +19,7 @@ use std::alloc::Global;
 pub const MOST_CLASHES: usize = 1_000;
 
 /// The record numbers of two lines, the lesser first.
-#[derive(Clone, Copy, PartialEq, Eq)]
+#[derive(Clone, Copy)]
 pub struct LinePair {
     pub i: u16,
     pub j: u16,

@@ -7,7 +7,7 @@ use sight_names::{Line, Memory, Plan};
 use std::alloc::Global;
 
 /// A point at which just one line ends, and the line's record number.
-#[derive(Clone, Copy, PartialEq, Eq)]
+#[derive(Clone, Copy)]
 pub struct LooseEnd {
     pub point: u16,
     pub line: u16,

@@ -16,7 +16,7 @@ use std::alloc::Global;
 
 /// A torn corner: the point, round which one turns from the edge that comes to it from `from`, along this side, to the edge
 /// that goes on to `to`. Of the two just one names a sector.
-#[derive(Clone, Copy, PartialEq, Eq)]
+#[derive(Clone, Copy)]
 pub struct Tear {
     pub side: Side,
     pub from: u16,

@@ -12,7 +12,7 @@ use std::alloc::AllocError;
 
 /// An arrow through the triangle of three points, by their numbers: over its edge between `from` and `point`, to the middle of that
 /// between `point` and `to`.
-#[derive(Clone, Copy, PartialEq, Eq)]
+#[derive(Clone, Copy)]
 pub struct Arrow {
     pub from: u16,
     pub point: u16,

@@ -11,7 +11,7 @@ use sight_names::{LineFault, Pt};
 use std::alloc::AllocError;
 
 /// What is at fault at a point of a map.
-#[derive(Clone, Copy, PartialEq, Eq)]
+#[derive(Clone, Copy)]
 pub enum PointFault {
     /// Two lines have it in common, and it isn't an end of both.
     Clash(LineFault),

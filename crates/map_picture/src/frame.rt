@@ -7,7 +7,7 @@ ghost use Rattle.map_picture.specs.Frame.{across as the_across, down as the_down
 use sight_names::Pt;
 
 /// The least and greatest coordinates of the points, in the map's own unit.
-#[derive(Clone, Copy, PartialEq, Eq)]
+#[derive(Clone, Copy)]
 pub struct Frame {
     pub left: i32,
     pub right: i32,

@@ -15,7 +15,7 @@ use sight_names::{Items, Plan, Triangle};
 use std::alloc::AllocError;
 
 /// What a ring is called.
-#[derive(Clone, Copy, PartialEq, Eq)]
+#[derive(Clone, Copy)]
 pub enum Letter {
     /// The sector from which is looked.
     A,

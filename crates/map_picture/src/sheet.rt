@@ -39,7 +39,7 @@ fn push_head(out: &mut Vec<u8>, sizes: Sizes) -> Result<(), AllocError>
 }
 
 /// What a picture tells of its map.
-#[derive(Clone, Copy, PartialEq, Eq)]
+#[derive(Clone, Copy)]
 pub enum Subject {
     /// The plan alone.
     Plan,

@@ -11,7 +11,7 @@ use sight_names::{Items, Memory};
 use std::alloc::Global;
 
 /// What a picture of a row or of a pair tells of a group of sectors.
-#[derive(Clone, Copy, PartialEq, Eq)]
+#[derive(Clone, Copy)]
 pub enum Tint {
     /// It names the sector whose row it is, or the first of a pair.
     Source,

@@ -3,7 +3,7 @@
 use sight_names::Ray;
 
 /// The answer for two sectors.
-#[derive(Clone, Copy, PartialEq, Eq)]
+#[derive(Clone, Copy)]
 pub enum PairAnswer {
     /// They see each other, along this ray from the first to the second.
     Sight(Ray),

@@ -1,6 +1,7 @@
 //! Texts of UDMF: the numbers of words, the first token of a text, and the map that a text spells, or its first fault. In
 //! rows a `^` stands for a line feed.
 
+use map_answers::sight_status::{Status, push_reason};
 use map_lumps::read_lumps;
 use sight_names::{MapFormat, Plan, Reading};
 use std::alloc::{AllocError, Global};
@@ -230,7 +231,8 @@ fn is_plan(a: &Plan, b: &Plan) -> bool {
 }
 
 // Whether the lumps spell the worked map of this name.
-fn spell_map(alloc: Global, lumps: &FourLumps, name: &str) -> bool {
+fn spell_map(alloc: Global, lumps: &FourLumps, name: &str) -> Result<bool, Fail> {
+    let worked = plan_named(alloc, name)?;
     let reading = Reading {
         format: MapFormat::Text,
         large: false,
@@ -243,10 +245,10 @@ fn spell_map(alloc: Global, lumps: &FourLumps, name: &str) -> bool {
         &lumps.vertexes,
         &lumps.sectors,
     );
-    match (read, plan_named(alloc, name)) {
-        (Ok(plan), Ok(worked)) => is_plan(&plan, &worked),
-        _ => false,
-    }
+    Ok(match read {
+        Ok(plan) => is_plan(&plan, &worked),
+        Err(_) => false,
+    })
 }
 
 // Whether the lumps have these bytes, one behind the other.
@@ -259,15 +261,17 @@ fn have_bytes(alloc: Global, lumps: &FourLumps, digits: &str) -> Result<bool, Al
     Ok(all == bytes_of_digits(alloc, digits)?)
 }
 
-// Whether the first fault has these words.
+// Whether a refusal tells the first fault by these words.
 fn has_words(alloc: Global, fault: TextFault, words: &str) -> Result<bool, Fail> {
-    Ok(format!(in alloc; "{fault}")?.as_str() == words)
+    let mut told = String::new(alloc);
+    push_reason(alloc, &mut told, Status::BadText(fault))?;
+    Ok(told.strip_prefix("bad lump: ") == Some(format!(in alloc; "{words}\n")?.as_str()))
 }
 
 fn is_right(alloc: Global, text: &[u8], expected: &str) -> Result<bool, Fail> {
     match lumps_of_text(alloc, text) {
         Ok(lumps) => match expected.strip_prefix("= ") {
-            Some(name) => Ok(spell_map(alloc, &lumps, name)),
+            Some(name) => spell_map(alloc, &lumps, name),
             None => Ok(have_bytes(alloc, &lumps, expected)?),
         },
         Err(fault) => has_words(alloc, fault, expected),

@@ -108,6 +108,11 @@ fn judged_singly(alloc: Global, plan: &Plan, table: &Table, bytes: &[u8]) -> Res
     judge.end()
 }
 
+// Whether two answers say the same.
+fn are_same(alloc: Global, one: &Judged, other: &Judged) -> Result<bool, AllocError> {
+    Ok(format!(in alloc; "{one:?}")? == format!(in alloc; "{other:?}")?)
+}
+
 // Whether the bytes cut in two here give this answer.
 fn is_judged_cut(
     alloc: Global,
@@ -122,7 +127,7 @@ fn is_judged_cut(
 {
     let (front, back) = bytes.split_at(at);
     match judged_cut(alloc, plan, table, front, back) {
-        Ok(judged) => Ok(judged == answer),
+        Ok(judged) => Ok(are_same(alloc, &judged, &answer)?),
         Err(memory) => Err(memory),
     }
 }
@@ -318,7 +323,7 @@ fn is_judged<R: Threads + Sync>(
     let answer = answer_of(rt, alloc, plan, table, bytes)?;
     Ok(
         is_told(alloc, &answer, part(row, 3))?
-            && judged_singly(alloc, plan, table, bytes)? == answer
+            && are_same(alloc, &judged_singly(alloc, plan, table, bytes)?, &answer)?
             && (!every_cut || are_judged(alloc, plan, table, bytes, answer)?),
     )
 }
@@ -372,8 +377,8 @@ fn is_short(
 {
     let short = Judged::Unread(CertFault::Short { at: at as u64 });
     Ok(
-        judged_at_once(alloc, plan, table, bytes)? == short
-            && judged_singly(alloc, plan, table, bytes)? == short,
+        are_same(alloc, &judged_at_once(alloc, plan, table, bytes)?, &short)?
+            && are_same(alloc, &judged_singly(alloc, plan, table, bytes)?, &short)?,
     )
 }
 

@@ -98,7 +98,9 @@ fn are_bytes_of(alloc: Global, bytes: &[u8], words: &str) -> Result<bool, AllocE
 // Whether all is as a row says.
 fn is_right(alloc: Global, row: &str) -> Result<bool, Fail> {
     let bytes = bytes_of(alloc, part(row, 0))?;
-    let wad = read_wad(alloc, &bytes)?;
+    let Ok(wad) = read_wad(alloc, &bytes) else {
+        return Err("no WAD is read".into());
+    };
     let names = maps(alloc, &wad)?;
     let made = rewritten(alloc, &bytes, &wad, names.as_slice(), part(row, 2))?;
     Ok(

@@ -4,7 +4,7 @@ use block_evidence::Evidence;
 use sight_names::Side;
 
 /// The next sequence of a walk, or what stands in its way.
-#[derive(Clone, Copy, PartialEq, Eq)]
+#[derive(Clone, Copy)]
 pub enum Step {
     /// A sequence that the line `a * x + b * y + c = 0` passes through, into this triangle; `entered` is the side where
     /// it arrives, if its last portal is a line.
@@ -22,7 +22,7 @@ pub enum Step {
 }
 
 /// How a walk went on: the kind of its next step. The walk can be asked for the rest.
-#[derive(Clone, Copy, PartialEq, Eq)]
+#[derive(Clone, Copy)]
 pub enum Went {
     /// To a sequence that a line passes through, and whether its last portal is a line of the map.
     Open(bool),

@@ -149,7 +149,7 @@ fn obey<R: Files + Print + Threads + Sync + AllocGlobal, O: Sink, P: Print>(
     if let (true, Some(refusal)) = (is_of_file(&status), shelf.last_refusal()) {
         progress.name_refusal(&refusal.name, &refusal.error);
     }
-    if is_all && status == Status::Done {
+    if is_all && matches!(status, Status::Done) {
         progress.end();
     }
     if may_be_large && (refuses_size(&status) || progress.has_refused_size()) {
@@ -250,7 +250,7 @@ pub fn run_order<R: Files + Print + Threads + Sync + AllocGlobal, E: Print + IsT
     } else {
         obey(rt, alloc, words, &order, &mut out, &progress, watcher)
     };
-    if ended.status == Status::Usage {
+    if matches!(ended.status, Status::Usage) {
         print_diagnosis(err, words);
     }
     code_of(&ended)

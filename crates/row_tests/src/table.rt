@@ -3,15 +3,11 @@
 
 use listeners::{Lines, Listener, Totals};
 use shelf_io::{MemSink, Shelf};
-use sight_names::{
-    CheckFault, FetchFault, LabelFault, LumpFault, OrderFault, RewriteFault, WadFault,
-};
-use sight_run::{Bound, Flaw, Hooks, NoNotice, Notice, Status, Why, code, run};
+use sight_run::{Hooks, NoNotice, Notice, Status, code, run};
 use sight_workers::OpenGate;
 use std::alloc::{AllocError, Global};
 use std::test::Fail;
 use std::thread::Threads;
-use udmf_map::TextFault;
 use worked_maps::files::bytes_of;
 use worked_maps::rows::part;
 use worked_maps::stages::{Stage, stage_of, words_in};
@@ -52,66 +48,6 @@ fn is_line(text: &[u8], before: &[u8], line: &str) -> bool {
         }
         None => said == line.as_bytes(),
     }
-}
-
-// The words of a limit's fault, empty where no fault says what is above the limit.
-fn words_of_bound(alloc: Global, bound: Bound) -> Result<String, AllocError> {
-    match bound {
-        Bound::Lumps => WadFault::TooManyLumps.to_string(alloc),
-        Bound::Lines => LumpFault::TooManyLines { count: 0 }.to_string(alloc),
-        Bound::Points => LumpFault::TooManyPoints { count: 0 }.to_string(alloc),
-        Bound::Sectors => LumpFault::TooManySectors { count: 0 }.to_string(alloc),
-        Bound::Vertices => TextFault::TooManyVertices { count: 0 }.to_string(alloc),
-        Bound::Sides => TextFault::TooManySides { count: 0 }.to_string(alloc),
-        Bound::OutputBytes => RewriteFault::TooLong.to_string(alloc),
-        Bound::WadBytes | Bound::CertBytes => Ok(String::new(alloc)),
-    }
-}
-
-fn words_of_flaw(alloc: Global, flaw: Flaw) -> Result<String, AllocError> {
-    match flaw {
-        Flaw::Line(fault) => fault.to_string(alloc),
-        Flaw::Open(side) => LabelFault::Open { side }.to_string(alloc),
-    }
-}
-
-// The words of the fault of a status, as the fault itself prints them; empty where it has none.
-fn words_of(alloc: Global, status: &Status) -> Result<String, AllocError> {
-    match *status {
-        Status::Usage => OrderFault::Usage.to_string(alloc),
-        Status::NoFile(_) => FetchFault::Absent.to_string(alloc),
-        Status::ReadFault(_) => FetchFault::Failed.to_string(alloc),
-        Status::NotWad(fault) => fault.to_string(alloc),
-        Status::NoMap(fault) => fault.to_string(alloc),
-        Status::BadLump(fault) => fault.to_string(alloc),
-        Status::BadText(fault) => fault.to_string(alloc),
-        Status::Limit(bound) => words_of_bound(alloc, bound),
-        Status::BadMap(flaw) => words_of_flaw(alloc, flaw),
-        Status::No(Why::Ray(fault)) => fault.to_string(alloc),
-        Status::No(Why::Trace(fault)) => fault.to_string(alloc),
-        Status::No(Why::Table(fault)) => fault.to_string(alloc),
-        Status::No(Why::Cert(fault)) => fault.to_string(alloc),
-        Status::No(Why::Check(fault)) => words_of_check(alloc, fault),
-        _ => Ok(String::new(alloc)),
-    }
-}
-
-fn words_of_check(alloc: Global, fault: CheckFault) -> Result<String, AllocError> {
-    match fault {
-        CheckFault::Mesh(fault) => fault.to_string(alloc),
-        CheckFault::Ray {
-            why: Some(fault),
-            ..
-        } => fault.to_string(alloc),
-        _ => Ok(String::new(alloc)),
-    }
-}
-
-// Whether a line tells the fault by its own words: they stand at its end, or behind `refused: `.
-fn tells(text: &[u8], words: &str) -> bool {
-    let said = text.strip_suffix(b"\n").unwrap_or(text);
-    let told = said.strip_prefix(b"refused: ").unwrap_or(said);
-    said.ends_with(words.as_bytes()) || told.starts_with(words.as_bytes())
 }
 
 // Whether what stands under the name is the file of these words, and without words whether there is none. Behind the name `<` says how
@@ -194,9 +130,6 @@ fn wrong_of(
     }
     if !is_line(&stage.text, before, part(row, 3)) {
         return Ok("line");
-    }
-    if !tells(&stage.text, &words_of(alloc, status)?) {
-        return Ok("words of the fault");
     }
     if !has_files(alloc, stage, part(row, 4))? {
         return Ok("files");

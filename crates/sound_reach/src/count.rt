@@ -12,7 +12,7 @@ use sight_names::{Memory, Plan};
 use std::alloc::Global;
 
 /// How many pairs (a, b) of sectors with a <= b there are between which a noise passes, and between which none does.
-#[derive(Clone, Copy, PartialEq, Eq)]
+#[derive(Clone, Copy)]
 pub struct Heard {
     pub pairs: u32,
     pub silent: u32,

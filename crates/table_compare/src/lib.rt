@@ -11,7 +11,7 @@ use reject_bits::Table;
 use sight_names::Pair;
 
 /// How a table differs from the right one of the same sectors.
-#[derive(Clone, Copy, PartialEq, Eq)]
+#[derive(Clone, Copy)]
 pub struct Comparison {
     /// How many pairs are set, and clear in the right one.
     pub wrong: u64,

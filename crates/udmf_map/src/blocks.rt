@@ -8,7 +8,7 @@ use crate::values::{Coordinate, is_word, place, truth, whole};
 use udmf_text::Given;
 
 /// A vertex.
-#[derive(Clone, Copy, PartialEq, Eq)]
+#[derive(Clone, Copy)]
 pub struct Vertex {
     pub x: Coordinate,
     pub y: Coordinate,
@@ -16,7 +16,7 @@ pub struct Vertex {
 
 /// A line: its vertices and sides by number, -1 where there is none, whether it has two sides and blocks sound, and its
 /// special. A number beyond 32 bits is the nearest one that they hold.
-#[derive(Clone, Copy, PartialEq, Eq)]
+#[derive(Clone, Copy)]
 pub struct Linedef {
     pub first: i32,
     pub second: i32,

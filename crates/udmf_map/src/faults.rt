@@ -6,30 +6,21 @@ ghost use Rattle.udmf_map.specs.declared.faults.TextFault.TheVariants.{Memory as
 use sight_names::Memory;
 use std::alloc::{AllocError, AllocFailed};
 
-/// Why a text is no map. The words are those that a refusal's line ends with; want of memory has none. A byte is counted
-/// from the front of the text, from 0.
-#[derive(Clone, Copy, Debug, PartialEq, Eq, thiserror::Error)]
+/// Why a text is no map. A byte is counted from the front of the text, from 0.
+#[derive(Clone, Copy)]
 pub enum TextFault {
     /// No token begins there, or one that can't stand there; or the text ends there, and an item isn't whole.
-    #[error("text {at}")]
     Text { at: usize },
     /// The first item there isn't the namespace, or another one there is; or the namespace there isn't read.
-    #[error("namespace {at}")]
     Namespace { at: usize },
     /// The value there isn't of the kind that its key takes.
-    #[error("value {at}")]
     Value { at: usize },
-    #[error("vertices")]
     TooManyVertices { count: usize },
-    #[error("sides")]
     TooManySides { count: usize },
     /// The line may show a far place.
-    #[error("portal of line {line}")]
     Portal { line: usize },
     /// The vertex, of which a line is, isn't on the grid.
-    #[error("coordinate of vertex {vertex}")]
     OffGrid { vertex: usize },
-    #[error("memory")]
     Memory(Memory),
 }
 

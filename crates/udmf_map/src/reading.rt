@@ -11,7 +11,7 @@ use std::alloc::Global;
 use udmf_text::{Given, Part, Stage, next_part};
 
 /// The namespaces that are read.
-#[derive(Clone, Copy, PartialEq, Eq)]
+#[derive(Clone, Copy)]
 pub enum Namespace {
     Doom,
     Heretic,

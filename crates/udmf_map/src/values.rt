@@ -12,7 +12,7 @@ use udmf_text::text_numbers::{Decimal, decimal_number, whole_number};
 pub const MOST_PLACES: u8 = 7;
 
 /// A coordinate of a vertex.
-#[derive(Clone, Copy, PartialEq, Eq)]
+#[derive(Clone, Copy)]
 pub enum Coordinate {
     /// It isn't given.
     Missing,

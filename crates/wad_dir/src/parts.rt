@@ -6,14 +6,14 @@ ghost use Rattle.sight_names.specs.declared.limits.TheConstants.{MOST_LUMPS};
 use sight_names::{Items, MapFormat};
 
 /// Whether a WAD is a game's own or an addition to one.
-#[derive(Clone, Copy, Debug, PartialEq, Eq)]
+#[derive(Clone, Copy, PartialEq, Eq)]
 pub enum Kind {
     Iwad,
     Pwad,
 }
 
 /// The name of a lump, padded with NUL, and where its bytes lie. One of no bytes stands at 0.
-#[derive(Clone, Copy, PartialEq, Eq)]
+#[derive(Clone, Copy)]
 pub struct Entry {
     pub name: [u8; 8],
     pub at: u32,
@@ -31,7 +31,7 @@ pub struct Wad {
 /// Where the lumps of a map stand in the directory, and the format of the map: Hexen's where the entry right behind its
 /// lumps is BEHAVIOR, else Doom's. A map of UDMF is a text, which spells the four lumps; it has the place of TEXTMAP for all
 /// four.
-#[derive(Clone, Copy, PartialEq, Eq)]
+#[derive(Clone, Copy)]
 pub struct MapSpot {
     pub marker: u32,
     pub linedefs: u32,

@@ -5,9 +5,7 @@ ghost use Rattle.pair_budget.specs.BoardCore.Machine.{pair, start};
 
 use map_lumps::hexen_lumps::to_hexen;
 use pair_budget::board_core::{Core, Event, Reply};
-use sight_names::{
-    BuildFault, FetchFault, LabelFault, Memory, Pair, Pt, RewriteFault, ShelfFault, Side, WadFault,
-};
+use sight_names::{FetchFault, Memory, Pair, Pt, ShelfFault};
 use stab_hull::{Passed, Sleeve};
 use std::alloc::{AllocError, Global};
 use std::fmt::Display;
@@ -65,39 +63,18 @@ fn are_alike<A: Display, B: Display>(
     Ok(one.as_str() == other.as_str())
 }
 
-// Whether faults of a file or of a WAD that mean the same have the same words.
+// Whether faults of a file that mean the same have the same words.
 fn are_alike_of_files(alloc: Global) -> Result<bool, AllocError> {
     Ok(
         are_alike(alloc, &ShelfFault::Absent, &FetchFault::Absent)?
-            && are_alike(alloc, &ShelfFault::Failed, &FetchFault::Failed)?
-            && are_alike(alloc, &WadFault::TooManyLumps, &RewriteFault::TooManyLumps)?,
+            && are_alike(alloc, &ShelfFault::Failed, &FetchFault::Failed)?,
     )
-}
-
-// Whether faults of faces that mean the same have the same words.
-fn are_alike_of_faces(alloc: Global) -> Result<bool, AllocError> {
-    let (first, second) = (side(3, true), side(7, false));
-    Ok(
-        are_alike(
-            alloc,
-            &LabelFault::Open { side: first },
-            &BuildFault::Open { side: first },
-        )? && are_alike(
-            alloc,
-            &LabelFault::Mixed { first, second },
-            &BuildFault::Mixed { first, second },
-        )?,
-    )
-}
-
-fn side(line: u16, left: bool) -> Side {
-    Side { line, left }
 }
 
 #[test]
 fn faults_of_one_meaning_have_the_same_words(rt: HostRuntime) -> Result<(), Fail> {
     let alloc = rt.alloc();
-    assert!(rt; are_alike_of_files(alloc)? && are_alike_of_faces(alloc)?);
+    assert!(rt; are_alike_of_files(alloc)?);
     Ok(())
 }
 

@@ -67,7 +67,9 @@ fn made_groups(alloc: Global) -> Result<MapOfGroups, Fail>
     ensures { IfOk result (λ m. AreFacesOf m.plan m.faces) }
 {
     let file = grid(alloc, 2, MapFormat::Doom)?;
-    let found = find_in(alloc, file, false, "MAP01")?;
+    let Ok(found) = find_in(alloc, file, false, "MAP01") else {
+        return Err("the made map isn't read".into());
+    };
     groups_of(alloc, &found.plan)
 }
 

@@ -39,7 +39,7 @@ pub struct WholeWad {
 }
 
 /// Why nothing is made of a WAD.
-#[derive(Clone, Copy, PartialEq, Eq)]
+#[derive(Clone, Copy)]
 pub enum Unmade {
     /// A map is refused so, which stops all.
     Stopped(Status),

@@ -8,8 +8,9 @@ use crate::texts::text_named;
 use map_lumps::hexen_lumps::to_hexen;
 use map_lumps::read_lumps;
 use map_maker::grid;
-use sight_names::{LumpFault, MapFormat, Plan, Reading};
+use sight_names::{MapFormat, Plan, Reading};
 use std::alloc::{AllocError, Global};
+use std::test::Fail;
 
 // A lump: its name, padded with NUL, and its bytes.
 #[derive(Drop)]
@@ -138,25 +139,28 @@ fn push_map(alloc: Global, lumps: &mut Vec<RowLump>, map: &Lines) -> Result<(), 
 }
 
 /// The plan of a worked map.
-pub fn plan_named(alloc: Global, name: &str) -> Result<Plan, LumpFault> {
+pub fn plan_named(alloc: Global, name: &str) -> Result<Plan, Fail> {
     let mut lumps = Vec::new(alloc);
     if let Some(map) = map_named(alloc, name)? {
         push_map(alloc, &mut lumps, &map)?;
     }
-    match lumps.as_slice() {
-        [_, linedefs, sidedefs, vertexes, sectors, _] => read_lumps(
-            alloc,
-            Reading {
-                format: MapFormat::Doom,
-                large: false,
-            },
-            &linedefs.bytes,
-            &sidedefs.bytes,
-            &vertexes.bytes,
-            &sectors.bytes,
-        ),
-        // no map has this name
-        _ => Err(LumpFault::TooManySectors { count: 0 }),
+    let [_, linedefs, sidedefs, vertexes, sectors, _] = lumps.as_slice() else {
+        return Err("no map has this name".into());
+    };
+    let read = read_lumps(
+        alloc,
+        Reading {
+            format: MapFormat::Doom,
+            large: false,
+        },
+        &linedefs.bytes,
+        &sidedefs.bytes,
+        &vertexes.bytes,
+        &sectors.bytes,
+    );
+    match read {
+        Ok(plan) => Ok(plan),
+        Err(_) => Err("the lumps of a worked map aren't read".into()),
     }
 }
 

@@ -6,7 +6,7 @@ use sight_names::PairRay;
 
 /// A part of a certificate of version 3, as a reader meets it. How many bytes a tree takes is for the reader alone. Trees have
 /// no head: a node says of which group's tree it is.
-#[derive(Clone, Copy, PartialEq, Eq)]
+#[derive(Clone, Copy)]
 pub enum Part {
     Triangle(Labelled),
     Ray(PairRay),

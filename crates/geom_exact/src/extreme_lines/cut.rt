@@ -12,7 +12,7 @@ use crate::extreme_lines::extreme::Extreme;
 use crate::extreme_lines::wedge::Wedge;
 
 /// A line: the points with `a * x + b * y + c` equal to 0.
-#[derive(Clone, Copy, PartialEq, Eq)]
+#[derive(Clone, Copy)]
 pub struct Cut {
     pub a: i32,
     pub b: i32,

@@ -10,7 +10,7 @@ use sight_names::{
 use udmf_map::TextFault;
 
 /// What a file is to an order, or the text that is put.
-#[derive(Clone, Copy, Debug, PartialEq, Eq)]
+#[derive(Clone, Copy)]
 pub enum Role {
     Wad,
     Cert,
@@ -20,7 +20,7 @@ pub enum Role {
 }
 
 /// What is above its limit.
-#[derive(Clone, Copy, Debug, PartialEq, Eq)]
+#[derive(Clone, Copy)]
 pub enum Bound {
     WadBytes,
     CertBytes,
@@ -36,7 +36,7 @@ pub enum Bound {
 }
 
 /// Why a map isn't sound.
-#[derive(Clone, Copy, Debug, PartialEq, Eq)]
+#[derive(Clone, Copy)]
 pub enum Flaw {
     /// Two lines share more than an end of both.
     Line(LineFault),
@@ -45,7 +45,7 @@ pub enum Flaw {
 }
 
 /// Why the answer of an order that judges is no.
-#[derive(Clone, Copy, Debug, PartialEq, Eq)]
+#[derive(Clone, Copy)]
 pub enum Why {
     Ray(RayFault),
     Trace(TraceFault),
@@ -62,7 +62,7 @@ pub enum Why {
 
 /// How a run ends. A fault for which there is another status, such as want of memory, never stands in `NotWad`,
 /// `BadLump`, `BadText` or `No`.
-#[derive(Clone, Copy, Debug, PartialEq, Eq)]
+#[derive(Clone, Copy)]
 pub enum Status {
     /// What the words ask was done.
     Done,

@@ -6,7 +6,7 @@ ghost use Rattle.triangulate.specs.IncidentSegments.Kept.{edge_of};
 use std::marker::Model;
 
 /// A segment between two points of the map, by their numbers.
-#[derive(Clone, Copy, PartialEq, Eq)]
+#[derive(Clone, Copy)]
 pub struct Segment {
     pub from: u16,
     pub to: u16,

@@ -7,7 +7,7 @@ use crate::text_numbers::digits::{digit, digits_in};
 use crate::text_numbers::whole::{negative, positive};
 
 /// A whole number times a power of ten: that of `scale`, which may be below 0.
-#[derive(Clone, Copy, PartialEq, Eq)]
+#[derive(Clone, Copy)]
 pub struct Decimal {
     pub negative: bool,
     pub mantissa: u128,
