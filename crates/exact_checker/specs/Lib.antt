@@ -4,4 +4,3 @@ pub mod Masking
 pub mod Pairs
 pub mod Judged
 pub mod ExactWorkers
-pub mod TaskCrew

@@ -14,7 +14,6 @@ mod masking;
 mod owning;
 mod pairs;
 mod ranking;
-pub mod task_crew;
 mod trees;
 
 pub use joining::{joined_rows, words_of};

@@ -26,7 +26,7 @@ use Rattle.portal_walk.specs.Nodes.{IsAnswered}
 use Rattle.row_trees.specs.declared.made.Made.{Made}
 use Rattle.row_trees.specs.Made.{AreSeen, AreWanted, IsMade}
 use Rattle.row_trees.specs.Walkable.{Ground, IsWalkable}
-use Rattle.exact_checker.specs.TaskCrew.Done.{AreDone}
+use Rattle.task_crew.specs.Done.{AreDone}
 use Rattle.exact_job.specs.Trees.{AreWalksOf, IsOwnedWalk}
 use Rattle.exact_checker.specs.Owning.{IsOwnedBit, KnowsOwning, OwningParts}
 use Rattle.exact_checker.specs.Judged.{AnswersFor}

@@ -9,7 +9,7 @@ use Rattle.sight_names.specs.Ray.{IsSightRay}
 use Rattle.cert_format.specs.declared.cert.Sizes.{Sizes}
 use Rattle.cert_format.specs.Grammar.{IsRayInRange}
 use Rattle.pair_budget.specs.PairRays.{HasRayFor}
-use Rattle.exact_checker.specs.TaskCrew.Done.{AreDone}
+use Rattle.task_crew.specs.Done.{AreDone}
 use Rattle.exact_job.specs.declared.ray_parts.TheConstants.{PART}
 
 -- ---- what walks find

@@ -26,7 +26,7 @@ use cert_format::{Labelled, Sizes};
 use certificates::cert_exact::ExactParts;
 use face_groups::{Group, GroupFault};
 use group_checker::GroupedMesh;
-use group_job::{MapOfGroups, labelled, map_of_groups};
+use group_job::{MapOfGroups, labelled};
 use mesh_shape::half_edges::HalfEdges;
 use reject_bits::Table;
 use sight_names::{Items, MOST_TRIANGLES, Memory, PairRay, Plan};
@@ -187,7 +187,7 @@ fn build_with<W: Walkers>(walkers: &W, alloc: Global, plan: &Plan) -> Result<Exa
         groups,
         plan: grouped,
         faces,
-    } = map_of_groups(alloc, plan)?;
+    } = walkers.map_groups(alloc, plan)?;
     let _ = grouped.lines();
     let triangles = labelled(alloc, &faces.mesh, &faces.labels)?;
     let over = over_groups(alloc, plan, grouped, triangles.as_slice())?;

@@ -5,7 +5,7 @@ ghost use Rattle.std.specs.Prelude.{ℕ};
 use crate::bars::{Bar, may_follow};
 use crate::known::{Known, bars_out_of, is_fresh};
 use crate::words::{has_at, put_at, row_with, start_of, take_group, word_at, zeros};
-use exact_checker::task_crew::Tasks;
+use task_crew::Tasks;
 use gate_floods::row_judge::words::part;
 use sight_names::Memory;
 use std::alloc::Global;

@@ -5,7 +5,7 @@ ghost use Rattle.exact_job.specs.Ground.{IsGround};
 ghost use Rattle.exact_job.specs.Rays.{AreFoundIn, IsFoundRay};
 
 use crate::judged::are_found;
-use exact_checker::task_crew::Tasks;
+use task_crew::Tasks;
 use group_checker::GroupedMesh;
 use mesh_shape::half_edges::HalfEdges;
 use sight_names::{Memory, PairRay};

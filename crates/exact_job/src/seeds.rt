@@ -4,7 +4,7 @@ use crate::cells::Cells;
 use crate::cones::{Line, narrow};
 use crate::tracks::Tracks;
 use crate::words::word_at;
-use exact_checker::task_crew::Tasks;
+use task_crew::Tasks;
 use gate_floods::gate_masks::gate::Gate;
 use sight_names::Memory;
 use std::alloc::Global;

@@ -1,10 +1,10 @@
 //! Tasks that somebody watches.
 
 ghost use Rattle.std.specs.Prelude.{ℕ, ◌<◌, IfOk};
-ghost use Rattle.exact_checker.specs.TaskCrew.Done.{AreDone};
+ghost use Rattle.task_crew.specs.Done.{AreDone};
 
 use crate::steps::{Stage, Watcher};
-use exact_checker::task_crew::{Tasks, shared};
+use task_crew::{Tasks, shared};
 use sight_names::Memory;
 use std::alloc::Global;
 use std::sync::atomic::{AtomicUsize, Ordering};

@@ -11,7 +11,7 @@ use crate::scout::{Scout, Search, Searched};
 use crate::traces::Trace;
 use crate::words::row_with;
 use cert_checker::tree_judge::Terrain;
-use exact_checker::task_crew::Tasks;
+use task_crew::Tasks;
 use exact_checker::{Owning, owned_row};
 use gate_floods::row_judge::Masks;
 use row_trees::{Made, Walk, walk_by_row};

@@ -1,11 +1,15 @@
 //! Who walks.
 
 ghost use denote.Param.Send.{IsSync};
-ghost use Rattle.std.specs.Prelude.{◌≡◌, ℕ, ◌*◌, ◌<◌, ◌≤◌, Some, All, IfOk, length, slice_get};
+ghost use Rattle.std.specs.Prelude.{◌≡◌, ℕ, ◌*◌, ◌<◌, ◌≤◌, Some, All, IfErr, IfOk, length, slice_get};
+ghost use Rattle.sight_names.specs.Map.{map_of};
+ghost use Rattle.sight_names.specs.Sound.{LinesMeetAtEnds};
+ghost use Rattle.group_job.specs.Built.{IsGroupFault};
+ghost use Rattle.group_job.specs.Grouped.{IsMapOfGroups};
 ghost use Rattle.exact_checker.specs.Owning.{IsSized, owning_of};
 ghost use Rattle.gate_floods.specs.RowJudge.Masks.{rows_of};
 ghost use Rattle.row_trees.specs.Walkable.{Ground as GroundOf, IsWalkable};
-ghost use Rattle.exact_checker.specs.TaskCrew.Done.{AreDone};
+ghost use Rattle.task_crew.specs.Done.{AreDone};
 ghost use Rattle.exact_job.specs.Ground.{IsGround};
 ghost use Rattle.exact_job.specs.Rays.{ArePartsFound};
 ghost use Rattle.exact_job.specs.Trees.{IsOwnedWalk};
@@ -18,16 +22,25 @@ use crate::steps::{Stage, Watcher};
 use crate::told::shared_told;
 use crate::tracks::Tracks;
 use crate::walk_tasks::{OwnedWalks, WantedWalks};
-use exact_checker::task_crew::{in_turn, shared};
+use face_groups::GroupFault;
+use group_job::{MapOfGroups, map_of_groups, map_of_groups_by};
 use row_trees::Made;
-use sight_names::Memory;
+use sight_names::{Memory, Plan};
 use std::alloc::Global;
 use std::thread::Threads;
+use task_crew::{in_turn, shared};
 
 /// Those who walk. What they give doesn't depend on who they are.
 pub trait Walkers {
     /// Whether they can walk: threads share what all of them may look at.
     ghost can_walk: { Self → Type 0 };
+
+    /// The groups of a map whose lines meet at ends, and its map of groups, over its mesh.
+    fn map_groups(&self, alloc: Global, plan: &Plan) -> Result<MapOfGroups, GroupFault>
+        requires can { can_walk self.now }
+        requires audited { LinesMeetAtEnds (map_of plan.now) }
+        ensures grouped { IfOk result (IsMapOfGroups plan.now) }
+        ensures fault { IfErr result (IsGroupFault (map_of plan.now)) };
 
     /// What is made of each group's walk with what it owns.
     fn walk_owned(&self, alloc: Global, walks: &OwnedWalks<'_>) -> Result<Vec<Made>, Memory>
@@ -63,6 +76,10 @@ pub struct Alone;
 impl Walkers for Alone {
     ghost can_walk = { λ w. Unit {0} };
 
+    fn map_groups(&self, alloc: Global, plan: &Plan) -> Result<MapOfGroups, GroupFault> {
+        map_of_groups(alloc, plan)
+    }
+
     fn walk_owned(&self, alloc: Global, walks: &OwnedWalks<'_>) -> Result<Vec<Made>, Memory> {
         in_turn(alloc, walks, usize::from(walks.known.count))
     }
@@ -94,6 +111,14 @@ pub struct InThreads<'a, R> {
 
 impl<'a, R: Threads + Sync> Walkers for InThreads<'a, R> {
     ghost can_walk = { λ w. IsSync R.row };
+
+    fn map_groups(&self, alloc: Global, plan: &Plan) -> Result<MapOfGroups, GroupFault> {
+        let workers = triangulate::InThreads {
+            rt: self.rt,
+            workers: self.workers,
+        };
+        map_of_groups_by(&workers, alloc, plan)
+    }
 
     fn walk_owned(&self, alloc: Global, walks: &OwnedWalks<'_>) -> Result<Vec<Made>, Memory> {
         let count = usize::from(walks.known.count);

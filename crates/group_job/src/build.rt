@@ -19,7 +19,7 @@ ghost use Rattle.group_job.specs.Sectors.{AreClear, AreOfSectors, ArePairsBelow}
 ghost use Rattle.group_job.specs.Walked.{AreWalkedGroups};
 
 use crate::certificate::map_sizes;
-use crate::grouped::{MapOfGroups, map_of_groups};
+use crate::grouped::{MapOfGroups, map_of_groups_by};
 use crate::sectors::{copied, sector_table};
 use crate::walked::{Built, budget_for, built_of};
 use cert_format::cert_groups::{AnyCert, CertTwo, Group};
@@ -30,6 +30,7 @@ use sight_names::{Ask, Items, Memory, Pair, Plan};
 use sight_workers::{Gate, Job, walk_all};
 use std::alloc::Global;
 use std::thread::Threads;
+use triangulate::InThreads;
 
 /// The table of a map's sectors, the pairs that aren't decided within the budgets, and the certificate of both, which is of
 /// version 2.
@@ -107,7 +108,7 @@ pub fn build_table<R: Threads + Sync, G: Gate + Sync>(
     ensures whole { ask ≡ Full → IfOk result (λ b. b.listed ≡ []) }
     ensures accepted { IfOk result (λ b. IsAcceptedAny (map_of plan.now) b.table.bytes b.cert) }
 {
-    let map = map_of_groups(alloc, plan)?;
+    let map = map_of_groups_by(&InThreads { rt, workers }, alloc, plan)?;
     let built = walked(rt, alloc, &map, workers, ask, gate)?;
     let told = by_sectors(alloc, plan, groups_of(map), built)?;
     Ok(told)

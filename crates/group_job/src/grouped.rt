@@ -11,7 +11,7 @@ use cert_format::cert_groups::Group;
 use face_groups::{GroupFault, Grouped, group_map};
 use sight_names::{Items, Plan};
 use std::alloc::Global;
-use triangulate::greedy_mesh;
+use triangulate::{Alone, SegmentWorkers, greedy_mesh_by};
 
 /// The groups of a map, its map of groups, and the mesh of that with its labels.
 #[derive(Drop)]
@@ -31,8 +31,26 @@ pub fn map_of_groups(alloc: Global, plan: &Plan) -> Result<MapOfGroups, GroupFau
     ensures grouped { IfOk result (IsMapOfGroups plan.now) }
     ensures fault { IfErr result (IsGroupFault (map_of plan.now)) }
 {
+    map_of_groups_by(&Alone, alloc, plan)
+}
+
+/// The same, its mesh by these workers.
+///
+/// # Errors
+///
+/// As `map_of_groups`.
+pub fn map_of_groups_by<W: SegmentWorkers>(
+    workers: &W,
+    alloc: Global,
+    plan: &Plan,
+) -> Result<MapOfGroups, GroupFault>
+    requires can { W.can_work workers.now }
+    requires audited { LinesMeetAtEnds (map_of plan.now) }
+    ensures grouped { IfOk result (IsMapOfGroups plan.now) }
+    ensures fault { IfErr result (IsGroupFault (map_of plan.now)) }
+{
     let _ = plan.lines();
-    let mesh = greedy_mesh(alloc, plan)?;
+    let mesh = greedy_mesh_by(workers, alloc, plan)?;
     let Grouped {
         groups,
         plan: grouped,

@@ -16,4 +16,4 @@ pub use alone::build_table_alone;
 pub use build::{GroupBuilt, build_table};
 pub use certificate::labelled;
 pub use faces::Faces;
-pub use grouped::{MapOfGroups, map_of_groups};
+pub use grouped::{MapOfGroups, map_of_groups, map_of_groups_by};

@@ -1,6 +1,7 @@
 pub mod Crossed
 pub mod PointExtents
 pub mod Filling
+pub mod Joining
 pub mod Listed
 pub mod Measured
 pub mod Ordering

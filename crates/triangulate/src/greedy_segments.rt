@@ -3,8 +3,11 @@
 
 mod clear;
 mod extents;
+mod parts;
 mod rounds;
 mod saturated;
 mod searched;
+mod workers;
 
-pub use rounds::greedy;
+pub use rounds::{greedy, greedy_by};
+pub use workers::{Alone, InThreads, SegmentWorkers};

@@ -7,7 +7,7 @@ pub mod incident_segments;
 pub mod laws;
 mod triangles;
 
-pub use crate::greedy_segments::greedy;
+pub use crate::greedy_segments::{Alone, InThreads, SegmentWorkers, greedy};
 pub use crate::incident_segments::{Segment, Segments};
 pub use laws::mesh_laws;
-pub use triangles::greedy_mesh;
+pub use triangles::{greedy_mesh, greedy_mesh_by};

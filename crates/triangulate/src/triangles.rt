@@ -10,7 +10,7 @@ ghost use Rattle.triangulate.specs.IncidentSegments.Kept.{AreEdges, edge_of};
 ghost use Rattle.triangulate.specs.Left.{AreLeftTriangles, IsInOrder, IsLeftAdded};
 ghost use Rattle.mesh_shape.specs.Fills.{FillsHull, FillsSides};
 
-use crate::greedy_segments::greedy;
+use crate::greedy_segments::{Alone, SegmentWorkers, greedy_by};
 use crate::incident_segments::{IncidentSegments, Segments, next_left};
 use mesh_shape::Mesh;
 use sight_names::{Memory, Plan, Triangle};
@@ -43,7 +43,24 @@ pub fn greedy_mesh(alloc: Global, plan: &Plan) -> Result<Mesh, Memory>
     ensures fills { IfOk result (λ mesh. FillsSides (map_of plan.now) mesh.triangles) }
     ensures few { IfOk result (λ mesh. length mesh.triangles ≤ 2 * length plan.now.points) }
 {
-    let segments = greedy(alloc, plan)?;
+    greedy_mesh_by(&Alone, alloc, plan)
+}
+
+/// The same mesh by these workers.
+pub fn greedy_mesh_by<W: SegmentWorkers>(
+    workers: &W,
+    alloc: Global,
+    plan: &Plan,
+) -> Result<Mesh, Memory>
+    requires can { W.can_work workers.now }
+    requires audited { LinesMeetAtEnds (map_of plan.now) }
+    ensures points { IfOk result (λ mesh. mesh.points ≡ length plan.now.points) }
+    ensures mesh { IfOk result (λ mesh. IsMeshOf (map_of plan.now) mesh.triangles) }
+    ensures plain { IfOk result (λ mesh. IsPlainMesh (map_of plan.now) mesh.triangles) }
+    ensures fills { IfOk result (λ mesh. FillsSides (map_of plan.now) mesh.triangles) }
+    ensures few { IfOk result (λ mesh. length mesh.triangles ≤ 2 * length plan.now.points) }
+{
+    let segments = greedy_by(workers, alloc, plan)?;
     mesh_of(alloc, plan, &segments)
 }
 

@@ -1,7 +1,7 @@
 //! Tasks by two workers that wait for each other: what builds that decide every pair and judges of version 3 share their work by.
 
 use crate::meeting::Meeting;
-use exact_checker::task_crew::{Tasks, shared};
+use task_crew::{Tasks, shared};
 use sight_names::Memory;
 use sight_workers::Gate;
 use std::alloc::Global;

@@ -10,7 +10,7 @@ use Rattle.gate_floods.specs.RowJudge.Masks.{MaskRows}
 use Rattle.exact_checker.specs.declared.trees.WrongNode.{WrongNode}
 use Rattle.exact_checker.specs.Owning.{OwningParts}
 use Rattle.exact_checker.specs.Judged.{AnswersFor, AnswersForEach}
-use Rattle.exact_checker.specs.TaskCrew.Done.{AreDone}
+use Rattle.task_crew.specs.Done.{AreDone}
 use Rattle.exact_checker.specs.ExactWorkers.Found.{HasNone, IsFirstFound}
 
 module _ (xs : List HalfEdge) (ms : MaskRows) (roots : List Root) (firsts : List (Option ℕ)) (known : OwningParts) (trees : List (List Node)) (found : List (Option ℕ)) (one_each : length trees ≡ known.count) (count : ℕ) (same : count ≡ known.count)

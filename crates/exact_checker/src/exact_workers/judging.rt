@@ -8,7 +8,7 @@ ghost use Rattle.exact_checker.specs.Owning.{owning_of, IsSized};
 ghost use Rattle.exact_checker.specs.Judged.{AnswersFor, AnswersForEach};
 ghost use Rattle.exact_checker.specs.ExactWorkers.Found.{IsFirstFound};
 
-use crate::task_crew::{Tasks, shared};
+use task_crew::{Tasks, shared};
 use crate::{Owning, TreeJudges, WrongNode, owned_row};
 use block_evidence::sight_tree::Nodes;
 use cert_checker::tree_judge::Terrain;

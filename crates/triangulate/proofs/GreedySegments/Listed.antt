@@ -12,7 +12,7 @@ use Rattle.sight_names.specs.Greedy.{edge_length, square_length}
 use Rattle.sight_names.proofs.Lists.{contains_of_get, get_of_contains}
 use Rattle.mesh_shape.proofs.Separate.{place_before}
 use Rattle.triangulate.specs.declared.greedy_segments.rounds.PointPair.{PointPair}
-use Rattle.triangulate.specs.GreedySegments.Pairs.{AreNumbers, HasPair, IsPairBetween, IsSquareBetween, AddsIfBetween, AddsPairs, ArePairsBetween}
+use Rattle.triangulate.specs.GreedySegments.Pairs.{AreNumbers, HasPair, IsPairBetween, IsSquareBetween, AddsIfBetween, AddsPairs, ArePairsBetween, ArePairsFrom}
 use Rattle.triangulate.proofs.GreedySegments.Crossed.{edge}
 use Rattle.triangulate.proofs.GreedySegments.Measured.{pair_of}
 use Rattle.math_base.proofs.Numbers.{below_same_or_above, below_or_last, below_or_not}
@@ -132,14 +132,10 @@ adds_rest p is from to i low high later old new order are at far before = record
     further : (x : ℕ) → (at_point to).x ≤ℤ (at_point x).x → pos high ≤ℤ ((at_point x).x -ℤ (at_point from).x)
     further x h = far_on high (at_point from).x (at_point to).x (at_point x).x (not_before (at_point from) (at_point to) (place_before p is from to order (are.within to (contains_of_get later to i at)))) h far
 
--- ---- the pairs of all points
+-- ---- the pairs of some points with those behind them
 
-pub record BetweenUpTo (m : Map) (numbers : List ℕ) (low high i : ℕ) (pairs : List PointPair) : Type 0 where
-  pub each : (p : PointPair) → Contains pairs p → IsPairBetween m low high p
-  pub all : (k from to : ℕ) → k < i → slice_get numbers k ≡ Some from → Contains numbers to → from < to → IsSquareBetween low high (edge_length m (edge from to)) → HasPair pairs (edge from to)
-
-pub between_none : (m : Map) (numbers : List ℕ) (low high : ℕ) → BetweenUpTo m numbers low high 0 []
-between_none m numbers low high = record { each = λ p c. absurd (contains_none p c); all = λ k from to lt at c order b. absurd (omega arith) }
+pub between_none : (m : Map) (numbers : List ℕ) (low high begin : ℕ) → ArePairsFrom m numbers low high begin begin []
+between_none m numbers low high begin = record { each = λ p c. absurd (contains_none p c); all = λ k from to least lt at c order b. absurd (omega arith) }
 
 slice_get-drop : {X : Type 0} (n : ℕ) (xs : List X) (k : ℕ) → slice_get (drop n xs) k ≡ slice_get xs (n + k)
 slice_get-drop zero xs k = ap (slice_get xs) (omega arith)
@@ -162,12 +158,12 @@ numbers_behind points n numbers are = record {
 pub greater_behind : (points i from : ℕ) (numbers : List ℕ) → AreNumbers points numbers → slice_get numbers i ≡ Some from → (k : ℕ) → Contains (drop (i + 1) numbers) k → from < k
 greater_behind points i from numbers are at k c = are.ascend i (i + 1 + c.0) from k (omega arith) at (item_behind (i + 1) numbers c.0 k (get_of_contains (drop (i + 1) numbers) k c.0 c.1 c.2))
 
-pub between_next : (m : Map) (points i from low high : ℕ) (numbers : List ℕ) (mid new : List PointPair) → AreNumbers points numbers → slice_get numbers i ≡ Some from → AddsPairs m from (drop (i + 1) numbers) low high mid new
-    → BetweenUpTo m numbers low high i mid → BetweenUpTo m numbers low high (i + 1) new
-between_next m points i from low high numbers mid new are at adds before = record {
+pub between_next : (m : Map) (points i from low high begin : ℕ) (numbers : List ℕ) (mid new : List PointPair) → AreNumbers points numbers → slice_get numbers i ≡ Some from → AddsPairs m from (drop (i + 1) numbers) low high mid new
+    → ArePairsFrom m numbers low high begin i mid → ArePairsFrom m numbers low high begin (i + 1) new
+between_next m points i from low high begin numbers mid new are at adds before = record {
   each = λ p c. elim (adds.each p c) [ inl h ↦ before.each p h | inr h ↦ h ];
-  all = λ k x to lt at_k c order b. elim (below_or_last k i lt) [
-    | inl less ↦ still_there (edge x to) mid new adds.kept (before.all k x to less at_k c order b)
+  all = λ k x to least lt at_k c order b. elim (below_or_last k i lt) [
+    | inl less ↦ still_there (edge x to) mid new adds.kept (before.all k x to least less at_k c order b)
     | inr same ↦ let e = same_Some from x (sym at ∙ ap (slice_get numbers) (sym same) ∙ at_k) in
         subst (λ (y : ℕ). HasPair new (edge y to)) e (adds.all to (later to c (subst (λ (y : ℕ). y < to) (sym e) order)) (subst (λ (y : ℕ). IsSquareBetween low high (edge_length m (edge y to))) (sym e) b))
   ];
@@ -181,8 +177,13 @@ between_next m points i from low high numbers mid new are at adds before = recor
       | inr (inr lt) ↦ contains_of_get (drop (i + 1) numbers) to (c.0 - (i + 1)) (slice_get-drop (i + 1) numbers (c.0 - (i + 1)) ∙ ap (slice_get numbers) (omega arith) ∙ get_of_contains numbers to c.0 c.1 c.2)
     ]
 
-pub between_all : (m : Map) (numbers : List ℕ) (low high i : ℕ) (pairs : List PointPair) → length numbers ≤ i → BetweenUpTo m numbers low high i pairs → ArePairsBetween m numbers low high pairs
-between_all m numbers low high i pairs le before = record {
+-- those before an end that has been passed
+pub between_end : (m : Map) (numbers : List ℕ) (low high begin end i : ℕ) (pairs : List PointPair) → end ≤ i → ArePairsFrom m numbers low high begin i pairs → ArePairsFrom m numbers low high begin end pairs
+between_end m numbers low high begin end i pairs le before = record { each = before.each; all = λ k from to least lt at c order b. before.all k from to least (omega (arith, le, lt)) at c order b }
+
+-- those of all points
+pub between_all : (m : Map) (numbers : List ℕ) (low high end : ℕ) (pairs : List PointPair) → length numbers ≤ end → ArePairsFrom m numbers low high 0 end pairs → ArePairsBetween m numbers low high pairs
+between_all m numbers low high end pairs le before = record {
   each = before.each;
-  all = λ e a c order b. before.all a.0 e.from e.to (let lt = a.1 in omega arith) (get_of_contains numbers e.from a.0 a.1 a.2) c order b;
+  all = λ e a c order b. before.all a.0 e.from e.to (omega arith) (let lt = a.1 in omega arith) (get_of_contains numbers e.from a.0 a.1 a.2) c order b;
 }

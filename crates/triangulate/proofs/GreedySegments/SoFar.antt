@@ -14,8 +14,8 @@ use Rattle.sight_names.proofs.Lists.{contains_of_get, get_of_contains}
 use Rattle.sight_names.proofs.Meets.{flip_first}
 use Rattle.triangulate.specs.declared.greedy_segments.rounds.PointPair.{PointPair}
 use Rattle.triangulate.specs.IncidentSegments.Kept.{MeetsEach, IsCrossedBy}
-use Rattle.triangulate.specs.GreedySegments.Pairs.{pair_edge, HasPair, IsPairBetween, ArePairsBetween, AreInOrder, IsNotAfter}
-use Rattle.triangulate.specs.GreedySegments.Rounds.{IsEarlier, IsGreedySoFar, IsShorter, IsSaturated, KeepsIfClear, KeepsClear}
+use Rattle.triangulate.specs.GreedySegments.Pairs.{pair_edge, HasPair, IsPairBetween, AreInOrder, IsNotAfter}
+use Rattle.triangulate.specs.GreedySegments.Rounds.{AreUncrossed, IsEarlier, IsGreedySoFar, IsShorter, IsSaturated, KeepsIfClear, KeepsClear}
 use Rattle.triangulate.proofs.GreedySegments.Crossed.{same_edge}
 use Rattle.math_base.proofs.Numbers.{below_or_last}
 use Rattle.math_base.proofs.Lists.{pushed_at, contains_none}
@@ -222,7 +222,7 @@ try_all m pairs i old new le kept before = record {
 -- ---- a round
 
 pub round_done : (m : Map) (low high : ℕ) (unsaturated : List ℕ) (pairs sorted : List PointPair) (old new : List Edge) → low * low ≤ high * high → IsGreedySoFar m (IsShorter m low) old
-    → ArePairsBetween m unsaturated low high pairs → IsPermutation pairs sorted → KeepsClear m sorted old new → ((k : ℕ) → k < length (points_of m) → Contains unsaturated k ⊎ IsSaturated m old k)
+    → AreUncrossed m old unsaturated low high pairs → IsPermutation pairs sorted → KeepsClear m sorted old new → ((k : ℕ) → k < length (points_of m) → Contains unsaturated k ⊎ IsSaturated m old k)
     → IsGreedySoFar m (IsShorter m high) new
 round_done m low high unsaturated pairs sorted old new le s between same keeps closed =
     widen m (λ e. IsShorter m low e ⊎ HasPair sorted e) (IsShorter m high) new
@@ -251,7 +251,10 @@ round_done m low high unsaturated pairs sorted old new le s between same keeps c
         | inr shut ↦ let bar = shut e.to p.1 (λ q. let a = p.0 in omega arith) in inr (early e bar.0 long bar.1 bar.2)
         | inl unsaturated_from ↦ elim (closed e.to p.1) [
           | inr shut ↦ let bar = shut e.from (let a = p.0 in let b = p.1 in omega arith) (λ q. let a = p.0 in omega arith) in inr (early e bar.0 long bar.1 (λ h. bar.2 (flip_first (place m e.from) (place m e.to) (place m bar.0.from) (place m bar.0.to) h)))
-          | inl unsaturated_to ↦ let h = between.all e unsaturated_from unsaturated_to p.0 (long, shorter) in inl (inr (h.0, Contains-permutation pairs sorted h.0 same h.1, h.2))
+          | inl unsaturated_to ↦ elim (between.all e unsaturated_from unsaturated_to p.0 (long, shorter)) [
+            | inl h ↦ inl (inr (h.0, Contains-permutation pairs sorted h.0 same h.1, h.2))
+            | inr bar ↦ inr (early e bar.0 long bar.1 bar.2)
+          ]
         ]
       ]
     ]

@@ -12,7 +12,7 @@ use Rattle.sight_names.specs.Greedy.{line_edges}
 use Rattle.sight_names.proofs.PlanNumbers.{number_of_plan}
 use Rattle.sight_names.proofs.Lists.{contains_of_get, get_of_contains}
 use Rattle.triangulate.specs.GreedySegments.Pairs.{AreNumbers}
-use Rattle.triangulate.specs.GreedySegments.Rounds.{AddsIfUnsaturated, IsSaturated, edges_of_line}
+use Rattle.triangulate.specs.GreedySegments.Rounds.{AddsIfUnsaturated, AreUnsaturated, IsSaturated, edges_of_line}
 use Rattle.triangulate.proofs.GreedySegments.Crossed.{edge, same_edge}
 use Rattle.math_base.proofs.Numbers.{below_or_last}
 use Rattle.math_base.proofs.Lists.{pushed_at, contains_none}
@@ -111,8 +111,12 @@ open_next m kept points unsaturated i x mid new are at (inr e) o = subst (OpenUp
     later : {y : ℕ} → ((k : ℕ) × (k < i) × (slice_get unsaturated k ≡ Some y)) → (k : ℕ) × (k < i + 1) × (slice_get unsaturated k ≡ Some y)
     later (k, lt, e) = (k, omega arith, e)
 
-pub open_all : (m : Map) (kept : List Edge) (points : ℕ) (unsaturated : List ℕ) (i : ℕ) (left : List ℕ) → length unsaturated ≤ i → OpenUpTo m kept points unsaturated i left → (k : ℕ) → Contains unsaturated k → Contains left k ⊎ IsSaturated m kept k
-open_all m kept points unsaturated i left le o k c = o.closed c.0 k (let lt = c.1 in omega arith) (get_of_contains unsaturated k c.0 c.1 c.2)
+pub open_all : (m : Map) (kept : List Edge) (points : ℕ) (unsaturated : List ℕ) (i : ℕ) (left : List ℕ) → length unsaturated ≤ i → OpenUpTo m kept points unsaturated i left → AreUnsaturated m kept points unsaturated left
+open_all m kept points unsaturated i left le o = record {
+  ordered = o.numbers;
+  among = λ k c. let f = o.before k c in contains_of_get unsaturated k f.0 f.2;
+  closed = λ k c. o.closed c.0 k (let lt = c.1 in omega arith) (get_of_contains unsaturated k c.0 c.1 c.2);
+}
 
 pub line_fits : (p : PlanParts) → IsPlan p → (i : ℕ) (o : Option Line) → slice_get p.lines i ≡ Some o → IfSome o (IsPlanLine p.sectors (length p.points))
 line_fits p is i None at = tt

@@ -43,6 +43,11 @@ pub record ArePairsBetween (m : Map) (numbers : List ℕ) (low high : ℕ) (pair
   pub each : (p : PointPair) → Contains pairs p → IsPairBetween m low high p
   pub all : (e : Edge) → Contains numbers e.from → Contains numbers e.to → e.from < e.to → IsSquareBetween low high (edge_length m e) → HasPair pairs e
 
+-- the same of those numbers that stand from begin on and before end, each with those behind it
+pub record ArePairsFrom (m : Map) (numbers : List ℕ) (low high begin end : ℕ) (pairs : List PointPair) : Type 0 where
+  pub each : (p : PointPair) → Contains pairs p → IsPairBetween m low high p
+  pub all : (k from to : ℕ) → begin ≤ k → k < end → slice_get numbers k ≡ Some from → Contains numbers to → from < to → IsSquareBetween low high (edge_length m (record { from = from; to = to })) → HasPair pairs (record { from = from; to = to })
+
 -- p comes before q, or stands for the same edge
 abbrev pub IsNotAfter : PointPair → PointPair → Type 0
 IsNotAfter p q = (p.square < q.square) ⊎ ((p.square ≡ q.square) × ((p.from < q.from) ⊎ ((p.from ≡ q.from) × (p.to ≤ q.to))))

@@ -1,12 +1,12 @@
 -- The kept segments after a part of the pairs has been tried.
-use Rattle.std.specs.Prelude.{◌≡◌, ◌≢◌, ℕ, ◌*◌, ◌<◌, ◌⊎◌, List, [], ◌∷◌, ◌++◌, Option, Some, None, length, slice_get, Contains}
+use Rattle.std.specs.Prelude.{◌≡◌, ◌≢◌, ℕ, ◌*◌, ◌<◌, ◌≤◌, ◌⊎◌, List, [], ◌∷◌, ◌++◌, Option, Some, None, length, slice_get, Contains}
 use Rattle.sight_names.specs.declared.plan.Line.{Line}
 use Rattle.sight_names.specs.Map.{Map}
 use Rattle.sight_names.specs.Points.{Edge, points_of}
 use Rattle.sight_names.specs.Greedy.{edge_length, ComesBefore, IsPointPair, EdgesMeetAtEnds, line_edges}
 use Rattle.triangulate.specs.declared.greedy_segments.rounds.PointPair.{PointPair}
 use Rattle.triangulate.specs.IncidentSegments.Kept.{MeetsEach, IsCrossedBy}
-use Rattle.triangulate.specs.GreedySegments.Pairs.{HasPair, IsPairBetween}
+use Rattle.triangulate.specs.GreedySegments.Pairs.{AreNumbers, HasPair, IsPairBetween, IsSquareBetween, pair_edge}
 
 -- a line, or a member of the rest that comes before e
 abbrev pub IsEarlier : Map → List Edge → Edge → Edge → Type 0
@@ -47,3 +47,28 @@ AddsIfUnsaturated m kept k old new = (new ≡ old ++ k ∷ []) ⊎ ((new ≡ old
 abbrev pub edges_of_line : Option Line → List Edge
 edges_of_line None = []
 edges_of_line (Some l) = record { from = l.a; to = l.b } ∷ []
+
+-- those of the numbers, in their order, that are left: no further segment ends at the others
+pub record AreUnsaturated (m : Map) (kept : List Edge) (points : ℕ) (numbers left : List ℕ) : Type 0 where
+  pub ordered : AreNumbers points left
+  pub among : (k : ℕ) → Contains left k → Contains numbers k
+  pub closed : (k : ℕ) → Contains numbers k → Contains left k ⊎ IsSaturated m kept k
+
+-- the pair is added at the end, or a kept segment shares more with it than an end of both
+abbrev pub AddsIfUncrossed : Map → List Edge → PointPair → List PointPair → List PointPair → Type 0
+AddsIfUncrossed m kept p old new = (new ≡ old ++ p ∷ []) ⊎ ((new ≡ old) × IsCrossedBy m kept (pair_edge p))
+
+-- some of the pairs; each of the others is crossed
+pub record LeavesUncrossed (m : Map) (kept : List Edge) (pairs left : List PointPair) : Type 0 where
+  pub among : (p : PointPair) → Contains left p → Contains pairs p
+  pub others : (p : PointPair) → Contains pairs p → Contains left p ⊎ IsCrossedBy m kept (pair_edge p)
+
+-- the pairs of these numbers whose lengths are in the range, but for some that a kept segment crosses
+pub record AreUncrossed (m : Map) (kept : List Edge) (numbers : List ℕ) (low high : ℕ) (pairs : List PointPair) : Type 0 where
+  pub each : (p : PointPair) → Contains pairs p → IsPairBetween m low high p
+  pub all : (e : Edge) → Contains numbers e.from → Contains numbers e.to → e.from < e.to → IsSquareBetween low high (edge_length m e) → HasPair pairs e ⊎ IsCrossedBy m kept e
+
+-- the same of those numbers that stand from begin on and before end, each with those behind it
+pub record AreUncrossedFrom (m : Map) (kept : List Edge) (numbers : List ℕ) (low high begin end : ℕ) (pairs : List PointPair) : Type 0 where
+  pub each : (p : PointPair) → Contains pairs p → IsPairBetween m low high p
+  pub all : (k from to : ℕ) → begin ≤ k → k < end → slice_get numbers k ≡ Some from → Contains numbers to → from < to → IsSquareBetween low high (edge_length m (record { from = from; to = to })) → HasPair pairs (record { from = from; to = to }) ⊎ IsCrossedBy m kept (record { from = from; to = to })

@@ -9,30 +9,44 @@ ghost use Rattle.sight_names.specs.Plan.{IsPlan, IsPlanLine};
 ghost use Rattle.sight_names.specs.Greedy.{square_length, line_edges, IsGreedy, IsPointPair};
 ghost use Rattle.triangulate.specs.declared.greedy_segments.rounds.PointPair.{PointPair};
 ghost use Rattle.triangulate.specs.IncidentSegments.Kept.{AreEdges, edges_of};
-ghost use Rattle.triangulate.specs.GreedySegments.Pairs.{AreNumbers, AreInOrder, ArePairsBetween, AddsIfBetween, AddsPairs, IsReach, IsSquareBetween, IsWithin, pair_edge};
+ghost use Rattle.triangulate.specs.GreedySegments.Pairs.{AreNumbers, AreInOrder, ArePairsBetween, ArePairsFrom, AddsIfBetween, AddsPairs, IsReach, IsSquareBetween, IsWithin, pair_edge};
 ghost use Rattle.triangulate.specs.GreedySegments.Extents.{AreExtents};
 ghost use Rattle.triangulate.specs.GreedySegments.Searched.{AreSearched};
-ghost use Rattle.triangulate.specs.GreedySegments.Rounds.{AddsIfUnsaturated, IsSaturated, KeepsClear, KeepsIfClear, edges_of_line};
+ghost use Rattle.triangulate.specs.GreedySegments.Rounds.{AddsIfUnsaturated, AreUnsaturated, KeepsClear, KeepsIfClear, edges_of_line};
 
 use crate::greedy_segments::clear::{is_clear, is_crossed};
 use crate::greedy_segments::extents::Extents;
 use crate::greedy_segments::saturated::is_saturated;
 use crate::greedy_segments::searched::Searched;
+use crate::greedy_segments::workers::{Alone, SegmentWorkers};
 use crate::incident_segments::{IncidentSegments, Segments};
 use sight_names::{Line, Memory, Plan, Pt};
 use std::alloc::Global;
 
 /// A pair of points by the square of its length.
 #[derive(Clone, Copy, PartialEq, Eq, PartialOrd, Ord)]
-struct PointPair {
-    square: u64,
-    from: u16,
-    to: u16,
+pub struct PointPair {
+    pub square: u64,
+    pub from: u16,
+    pub to: u16,
 }
 
 /// The lines in record order, and then all pairs of points by squared length, first number and second number that share
 /// with each segment kept so far nothing but an end of both.
 pub fn greedy(alloc: Global, plan: &Plan) -> Result<Segments, Memory>
+    ensures edges { IfOk result (AreEdges (length plan.now.points)) }
+    ensures greedy { IfOk result (λ kept. IsGreedy (map_of plan.now) kept) }
+{
+    greedy_by(&Alone, alloc, plan)
+}
+
+/// The same by these workers.
+pub fn greedy_by<W: SegmentWorkers>(
+    workers: &W,
+    alloc: Global,
+    plan: &Plan,
+) -> Result<Segments, Memory>
+    requires can { W.can_work workers.now }
     ensures edges { IfOk result (AreEdges (length plan.now.points)) }
     ensures greedy { IfOk result (λ kept. IsGreedy (map_of plan.now) kept) }
 {
@@ -44,14 +58,15 @@ pub fn greedy(alloc: Global, plan: &Plan) -> Result<Segments, Memory>
     let mut low = 0u32;
     let mut high = 64u32;
     while low < longest {
-        unsaturated = unsaturated_points(
+        unsaturated = workers.find_unsaturated(
             alloc,
             plan,
             &incident,
             &mut searched,
             unsaturated.as_slice(),
         )?;
-        let mut pairs = pairs_between(alloc, plan, unsaturated.as_slice(), low, high)?;
+        let left = unsaturated.as_slice();
+        let mut pairs = workers.find_pairs(alloc, plan, &incident, left, low, high)?;
         sort_pairs(&mut pairs);
         keep_clear_pairs(plan, &mut incident, &mut extents, pairs.as_slice())?;
         low = high;
@@ -134,7 +149,7 @@ fn all_points(alloc: Global, plan: &Plan) -> Result<Vec<u16>, Memory>
 }
 
 /// The points that aren't closed.
-fn unsaturated_points(
+pub fn unsaturated_points(
     alloc: Global,
     plan: &Plan,
     incident: &IncidentSegments,
@@ -145,8 +160,7 @@ fn unsaturated_points(
     requires searched { AreSearched (map_of plan.now) searched.old.triangles.items }
     requires unsaturated { AreNumbers (length plan.now.points) unsaturated.now }
     ensures searched { AreSearched (map_of plan.now) searched.new.triangles.items }
-    ensures numbers { IfOk result (λ v. AreNumbers (length plan.now.points) v.items) }
-    ensures closed { IfOk result (λ v. (k : ℕ) → Contains unsaturated.now k → Contains v.items k ⊎ IsSaturated (map_of plan.now) (edges_of incident.now.segments) k) }
+    ensures left { IfOk result (λ v. AreUnsaturated (map_of plan.now) (edges_of incident.now.segments) (length plan.now.points) unsaturated.now v.items) }
 {
     let mut others = Vec::new(alloc);
     for k in unsaturated {
@@ -213,7 +227,7 @@ fn is_above(p: Pt, q: Pt, high: u32) -> bool
 }
 
 /// The pairs of unsaturated points at least `low` and less than `high` apart.
-fn pairs_between(
+pub fn pairs_between(
     alloc: Global,
     plan: &Plan,
     unsaturated: &[u16],
@@ -225,9 +239,30 @@ fn pairs_between(
     requires high { high ≤ 2 ^ 28 }
     ensures { IfOk result (λ v. ArePairsBetween (map_of plan.now) unsaturated.now low high v.items) }
 {
+    pairs_from(alloc, plan, unsaturated, 0, unsaturated.len(), low, high)
+}
+
+/// The pairs of those unsaturated points that stand from `begin` on and before `end`, each with those behind it, as far as
+/// they are at least `low` and less than `high` apart.
+pub fn pairs_from(
+    alloc: Global,
+    plan: &Plan,
+    unsaturated: &[u16],
+    begin: usize,
+    end: usize,
+    low: u32,
+    high: u32,
+) -> Result<Vec<PointPair>, Memory>
+    requires unsaturated { AreNumbers (length plan.now.points) unsaturated.now }
+    requires within { end ≤ length unsaturated.now }
+    requires low { low ≤ 2 ^ 27 }
+    requires high { high ≤ 2 ^ 28 }
+    ensures { IfOk result (λ v. ArePairsFrom (map_of plan.now) unsaturated.now low high begin end v.items) }
+{
     let mut pairs = Vec::new(alloc);
-    for (at, from) in unsaturated.iter().enumerate() {
-        add_pairs(plan, &mut pairs, *from, &unsaturated[at + 1..], low, high)?;
+    for at in begin..end {
+        let later = &unsaturated[at + 1..];
+        add_pairs(plan, &mut pairs, unsaturated[at], later, low, high)?;
     }
     Ok(pairs)
 }

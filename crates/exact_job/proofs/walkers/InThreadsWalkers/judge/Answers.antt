@@ -1,5 +1,5 @@
 use Rattle.std.proofs.lemmas.Result.{IfOk-weaker}
-use Rattle.exact_checker.specs.TaskCrew.Done.{AreDone}
+use Rattle.task_crew.specs.Done.{AreDone}
 use Rattle.exact_job.specs.Rays.{AreFoundIn, ArePartsFound}
 use Rattle.exact_job.proofs.walkers.InThreadsWalkers.judge.Goals as goal
 

@@ -1,4 +1,4 @@
-use Rattle.std.proofs.Common.{ℕ, get_or, subst, ap₂, arith, nat_abs, ◌≤◌, ◌-ℤ◌}
+use Rattle.std.proofs.Common.{get_or, subst, ap₂, arith, nat_abs, ◌≤◌, ◌-ℤ◌}
 use Rattle.std.proofs.lemmas.Bool.{OnTrue_at}
 use Rattle.std.proofs.lemmas.Option.{slice_get-get_or}
 use Rattle.sight_names.specs.declared.names.Pt.{Pt}

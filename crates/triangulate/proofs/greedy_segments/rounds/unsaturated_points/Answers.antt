@@ -23,5 +23,5 @@ loop-k-preserved c = record {
   searched = c.in_ok-push_if_unsaturated.ensures.searched;
 }
 
-pub returns-clause-closed : goal.returns-clause-closed
-returns-clause-closed c = open_all (map_of c.args.plan.now) (edges_of c.args.incident.now.segments) (length c.args.plan.now.points) c.args.unsaturated.now c.loop-k.k-index c.loop-k.others.items (omega (arith, c.loop-k-test.false)) c.loop-k.invariant.opened
+pub returns-clause-left : goal.returns-clause-left
+returns-clause-left c = open_all (map_of c.args.plan.now) (edges_of c.args.incident.now.segments) (length c.args.plan.now.points) c.args.unsaturated.now c.loop-k.k-index c.loop-k.others.items (omega (arith, c.loop-k-test.false)) c.loop-k.invariant.opened

@@ -1,9 +1,0 @@
-use Rattle.std.proofs.Common.{All, length}
-use Rattle.exact_checker.specs.TaskCrew.Done.{Stand}
-use Rattle.exact_checker.proofs.task_crew.crew.gather.Given as goal
-
-abbrev pub invariant-hands : goal.invariant-hands
-invariant-hands g l = All (λ h. All (λ n. g.T.Tasks.is_done l.tasks n.number n.done) h.done.items) l.hands.items × Stand (g.T.Tasks.is_done l.tasks) l.slots.items
-
-abbrev pub decreases-hands : goal.decreases-hands
-decreases-hands g l = length l.hands.items

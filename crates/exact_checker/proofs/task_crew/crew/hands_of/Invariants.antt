@@ -1,5 +1,0 @@
-use Rattle.std.proofs.Common.{All}
-use Rattle.exact_checker.proofs.task_crew.crew.hands_of.Given as goal
-
-abbrev pub invariant-loop : goal.invariant-loop
-invariant-loop g l = All (λ h. All (λ n. g.T.Tasks.is_done l.tasks n.number n.done) h.done.items) l.hands.items

@@ -1,5 +1,0 @@
-use Rattle.std.proofs.Common.{All}
-use Rattle.exact_checker.proofs.task_crew.hand.labour.Given as goal
-
-abbrev pub invariant-loop : goal.invariant-loop
-invariant-loop g l = All (λ n. g.T.Tasks.is_done l.tasks n.number n.done) l.hand.done.items
