@@ -13,7 +13,7 @@ use Rattle.cert_format.specs.declared.cert.Labelled.{Labelled}
 use Rattle.cert_format.specs.declared.cert.Sizes.{Sizes}
 use Rattle.cert_format.proofs.LimitLaws.{few_of}
 use Rattle.exact_job.specs.Built.{AreInOrder, IsOverGroups}
-use Rattle.exact_job.specs.Ground.{IsGround}
+use Rattle.found_rays.specs.Ground.{IsGround}
 
 pub few_triangles : (sizes : Sizes) (groups : List (List ℕ)) (cs : List Labelled) → AreInOrder sizes groups cs → length cs ≤ MOST_TRIANGLES
 few_triangles sizes groups cs h = few_of sizes.points (length cs) h.few

@@ -1,5 +1,4 @@
 pub mod Counting
-pub mod Ordering
 pub mod Making
 pub mod InOrder
 pub mod Front
@@ -8,5 +7,3 @@ pub mod Tables
 pub mod Accepting
 pub mod Walks
 pub mod Rounds
-pub mod FewLines
-pub mod Judging

@@ -3,7 +3,7 @@ use Rattle.std.proofs.Common.{◌≡◌, ◌≢◌, ℕ, ◌+◌, ◌*◌, ◌^�
 use Rattle.std.specs.Prelude.{All, Bool, MatchBool, true, false}
 use Rattle.std.specs.List.{slice_get}
 use Rattle.std.proofs.lemmas.List.{append_assoc, length-map, map_more, take_all}
-use Rattle.std.proofs.lemmas.List.Elements.{All-append, All-contains, All-from_recursion, Contains-append_left, Contains-append_right}
+use Rattle.std.proofs.lemmas.List.Elements.{All-append, All-contains, All-from_recursion, All-map, Contains-append_left, Contains-append_right}
 use Rattle.std.proofs.lemmas.Option.{same_Some, slice_get-get_or, slice_get_within}
 use Rattle.math_base.proofs.Bools.{not_both_values}
 use Rattle.math_base.proofs.Lists.{all_of, contains_map}
@@ -40,12 +40,12 @@ use Rattle.exact_checker.proofs.JoinedRows.{cert_of}
 use Rattle.exact_job.specs.declared.settling.Round.{Round}
 use Rattle.exact_job.specs.declared.settling.Settled.{Settled}
 use Rattle.exact_job.specs.Built.{IsSettled}
-use Rattle.exact_job.specs.Rays.{AreFoundInOrder, AreOneEach, AreRaysInOrder, IsFoundRay}
+use Rattle.found_rays.specs.Rays.{AreFoundInOrder, AreOneEach, IsFoundRay}
+use Rattle.exact_job.specs.Rays.{AreRaysInOrder}
 use Rattle.exact_job.specs.Rounds.{AreNoted, HasMore, IsRound}
 use Rattle.exact_job.specs.Trees.{AreTreesFor, AreWalks, HasFound, HasFoundNothing, nodes_of}
 use Rattle.exact_job.proofs.Walks.{nodes_at}
 use Rattle.exact_job.proofs.Counting.{Rise, HasKey, few, less}
-use Rattle.sight_workers.proofs.Walks.{from_map}
 
 -- ---- what one walk found
 
@@ -64,7 +64,7 @@ in_range p f found s = All-from_recursion _ found (all_of (λ (r : Reached). IsI
 pub found_more : (p : PlanParts) (f : ℕ) (found : List Reached) (rays : List PairRay) → AreSeen p f found → All (IsFoundRay p) rays → All (IsFoundRay p) (rays ++ map (toward f) found)
 found_more p f found rays s old =
     All-append (IsFoundRay p) rays (map (toward f) found) old
-    (All-from_recursion (IsFoundRay p) (map (toward f) found) (all_of (IsFoundRay p) (map (toward f) found) (λ y c. let w = from_map (toward f) found y c in subst (IsFoundRay p) w.2 (is_found p f found w.0 s w.1))))
+    (All-map (IsFoundRay p) (toward f) found (All-from_recursion _ found (all_of (λ (x : Reached). IsFoundRay p (toward f x)) found (λ x c. is_found p f found x s c))))
 
 -- the ray of the next one is noted
 pub note_next : (f : Reached → PairRay) (xs : List Reached) (i : ℕ) (d : Reached) (old mid new : List PairRay) (t : PairRay) → i < length xs → mid ≡ old ++ map f (take i xs) → t ≡ f (get_or xs i d) → new ≡ mid ++ t ∷ [] → new ≡ old ++ map f (take (i + 1) xs)

@@ -22,7 +22,7 @@ use Rattle.group_job.specs.Sectors.{AreListedByGroups, AreOfSectors, ArePairsBel
 use Rattle.group_job.proofs.Following.{set_or_clear}
 use Rattle.group_job.proofs.Marks.{sets_as}
 use Rattle.exact_checker.specs.Judged.{IsThreeFor}
-use Rattle.exact_job.specs.Lines.{pair_of}
+use Rattle.found_rays.specs.Lines.{pair_of}
 use Rattle.exact_job.specs.Table.{AreInOneGroup, IsTableOf}
 
 -- ---- the sectors of the i-th group with each other

@@ -25,7 +25,7 @@ use Rattle.exact_checker.specs.Owning.{AreRanks, KnowsOwning, OwningParts}
 use Rattle.exact_checker.specs.Rows.{AreJoinedRows}
 use Rattle.exact_checker.specs.Judged.{AnswersFor, AreTreesOf}
 use Rattle.exact_checker.proofs.Judging.{trees_told}
-use Rattle.exact_job.specs.Ground.{IsGround}
+use Rattle.found_rays.specs.Ground.{IsGround}
 use Rattle.exact_job.specs.Trees.{AreWalks, AreWalksOf, HasFoundNothing, nodes_of}
 use Rattle.exact_job.proofs.Making.{unjoined}
 

@@ -10,7 +10,7 @@ use Rattle.row_trees.specs.declared.made.Made.{Made}
 use Rattle.row_trees.specs.Made.{AreSeen}
 use Rattle.exact_checker.specs.Rows.{AreJoinedRows}
 use Rattle.exact_job.specs.declared.settling.Round.{Round}
-use Rattle.exact_job.specs.Rays.{AreFoundInOrder, IsFoundRay}
+use Rattle.found_rays.specs.Rays.{AreFoundInOrder, IsFoundRay}
 use Rattle.exact_job.specs.Trees.{AreWalks, HasFound}
 
 -- over a map of groups with these triangles and half-edges: rays in order, the rows of what they join, and a walk of each group

@@ -17,9 +17,8 @@ ghost use Rattle.exact_checker.specs.Judged.{IsThreeFor, TellsTrees};
 ghost use Rattle.exact_job.specs.Built.{AreInOrder, IsOverGroups};
 
 use crate::settling::settle;
-use crate::steps::{Watcher, tell_end};
 use crate::table::table_of;
-use crate::walkers::{Alone, InThreads, Walkers};
+use crate::walkers::Walkers;
 use block_evidence::sight_tree::Nodes;
 use cert_checker::mesh_over;
 use cert_format::{Labelled, Sizes};
@@ -32,6 +31,7 @@ use reject_bits::Table;
 use sight_names::{Items, MOST_TRIANGLES, Memory, PairRay, Plan};
 use std::alloc::Global;
 use std::thread::Threads;
+use task_crew::{Alone, InThreads, Watcher, tell_end};
 
 /// The table of a map's sectors, in which every pair is decided, and its certificate, which is of version 3.
 #[derive(Drop)]
@@ -126,6 +126,8 @@ fn build_grouped<W: Walkers>(
     triangles: Vec<Labelled>,
 ) -> Result<ExactBuilt, Memory>
     requires can { W.can_walk walkers.now }
+    requires can_judge { W.can_judge walkers.now }
+    requires can_search { W.can_search walkers.now }
     requires audited { LinesMeetAtEnds (map_of plan.now) }
     requires sizes { sizes ≡ sizes_of_plan plan.now }
     requires in_order { AreInOrder sizes groups triangles.items }
@@ -170,6 +172,8 @@ fn over_groups(
 /// The build by these walkers.
 fn build_with<W: Walkers>(walkers: &W, alloc: Global, plan: &Plan) -> Result<ExactBuilt, GroupFault>
     requires can { W.can_walk walkers.now }
+    requires can_judge { W.can_judge walkers.now }
+    requires can_search { W.can_search walkers.now }
     requires audited { LinesMeetAtEnds (map_of plan.now) }
     ensures fault { IfErr result (IsGroupFault (map_of plan.now)) }
     ensures sectors { IfOk result (λ b. b.table.n ≡ plan.now.sectors) }

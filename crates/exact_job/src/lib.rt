@@ -5,33 +5,12 @@
 //! that no such pair sees.
 #![tactic(auto)]
 
-mod bars;
 mod build;
-mod by_pairs;
-mod cells;
-mod cones;
-mod first;
-mod floods;
-mod judged;
-mod known;
-mod lines;
-mod marks;
-mod pairs;
-mod ray_parts;
-mod rays;
-mod scene;
-mod scout;
-mod seeds;
 mod settling;
-mod steps;
 mod table;
-mod told;
-mod traces;
-mod tracks;
 mod trees;
 mod walk_tasks;
 mod walkers;
-mod words;
 
 pub use build::{ExactBuilt, build_exact, build_exact_alone};
-pub use steps::{Stage, Steps, Watcher};
+pub use task_crew::{Stage, Steps, Watcher};

@@ -1,28 +1,30 @@
 //! Rounds of walks with what each group owns, until none of them finds anything.
 
-ghost use Rattle.std.specs.Prelude.{◌≡◌, ◌≢◌, ◌<◌, ℕ, List, [], Some, All, IfOk, true, false, MatchBool, OnOk, length, slice_get};
+ghost use Rattle.std.specs.Prelude.{◌≡◌, ◌≢◌, ◌<◌, ◌++◌, ℕ, List, [], Some, All, IfOk, true, false, MatchBool, OnOk, length, map, slice_get};
 ghost use Rattle.sight_names.specs.declared.names.Triangle.{Triangle as TriangleOf};
 ghost use Rattle.sight_names.specs.Plan.{IsPlan, PlanParts};
 ghost use Rattle.sight_names.specs.Ray.{IsInRange};
 ghost use Rattle.mesh_shape.specs.declared.half_edges.table.HalfEdge.{HalfEdge as HalfEdgeOf};
+ghost use Rattle.pair_budget.specs.PairRays.{toward as ray_toward};
 ghost use Rattle.row_trees.specs.declared.made.Made.{Made as MadeOf};
 ghost use Rattle.exact_job.specs.Built.{IsSettled};
-ghost use Rattle.exact_job.specs.Ground.{IsGround};
-ghost use Rattle.exact_job.specs.Rays.{AreFoundInOrder};
+ghost use Rattle.found_rays.specs.Ground.{IsGround};
+ghost use Rattle.found_rays.specs.Rays.{AreFoundInOrder};
 ghost use Rattle.exact_job.specs.Rounds.{AreNoted, HasMore, IsRound};
 ghost use Rattle.exact_job.specs.Trees.{HasFound, HasFoundNothing, nodes_of};
 
-use crate::first::first_rays;
-use crate::judged::judged;
-use crate::rays::{in_order, note_found};
 use crate::trees::make_trees;
 use crate::walkers::Walkers;
 use block_evidence::sight_tree::Nodes;
 use cert_format::Sizes;
 use exact_checker::joined_rows;
+use first_walk::{first_rays, toward};
+use found_rays::in_order;
+use found_rays::judged::judged;
 use gate_floods::gate_masks::Row;
 use group_checker::GroupedMesh;
 use mesh_shape::half_edges::HalfEdges;
+use pair_budget::Reached;
 use row_trees::Made;
 use sight_names::{Memory, PairRay};
 use std::alloc::Global;
@@ -86,6 +88,17 @@ fn has_found(walks: &[Made]) -> bool
         }
     }
     false
+}
+
+/// Adds a ray for each group that the source found.
+fn note_found(rays: &mut Vec<PairRay>, source: u16, found: &[Reached]) -> Result<(), Memory>
+    requires { All (λ r. IsInRange r.ray) found.now }
+    ensures { OnOk result (rays.new.items ≡ rays.old.items ++ map (ray_toward source) found.now) }
+{
+    for reached in found {
+        rays.push(toward(source, reached))?;
+    }
+    Ok(())
 }
 
 /// Adds the rays that the walks of so many groups found.
@@ -152,10 +165,12 @@ fn first_round<W: Walkers>(
     edges: &HalfEdges,
 ) -> Result<Round, Memory>
     requires can { W.can_walk walkers.now }
+    requires can_judge { W.can_judge walkers.now }
+    requires can_search { W.can_search walkers.now }
     requires ground { IsGround over.now.plan over.now.mesh.triangles over.now.labels edges.now }
     ensures { IfOk result (IsRound over.now.plan over.now.mesh.triangles edges.now) }
 {
-    let found = first_rays(walkers, alloc, over, edges)?;
+    let found = first_rays(walkers, alloc, &over.plan, &over.mesh, edges)?;
     let each = in_order(alloc, found)?;
     let rays = judged(walkers, alloc, over, edges, each)?;
     round_of(walkers, alloc, over, edges, rays)
@@ -190,6 +205,8 @@ pub fn settle<W: Walkers>(
     sizes: Sizes,
 ) -> Result<Settled, Memory>
     requires can { W.can_walk walkers.now }
+    requires can_judge { W.can_judge walkers.now }
+    requires can_search { W.can_search walkers.now }
     requires sectors { sizes.sectors ≡ over.now.plan.sectors }
     requires lines { sizes.lines ≡ length over.now.plan.lines }
     requires ground { IsGround over.now.plan over.now.mesh.triangles over.now.labels edges.now }

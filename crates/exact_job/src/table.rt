@@ -5,7 +5,7 @@ ghost use Rattle.certificates.specs.declared.cert_exact.cert.ExactParts.{ExactPa
 ghost use Rattle.certificates.specs.CertExact.Grammar.{as_two};
 ghost use Rattle.group_job.specs.Marks.{SetsMore};
 ghost use Rattle.group_job.specs.Sectors.{AreListedByGroups, AreOfSectors, ArePairsBelow};
-ghost use Rattle.exact_job.specs.Lines.{pair_of};
+ghost use Rattle.found_rays.specs.Lines.{pair_of};
 ghost use Rattle.exact_job.specs.Table.{AreInOneGroup, IsTableOf};
 
 use face_groups::Group;

@@ -4,7 +4,7 @@ ghost use Rattle.std.specs.Prelude.{◌≡◌, ◌*◌, ◌<◌, ◌≤◌, ℕ,
 ghost use Rattle.exact_checker.specs.Owning.{IsSized, owning_of};
 ghost use Rattle.gate_floods.specs.RowJudge.Masks.{rows_of};
 ghost use Rattle.row_trees.specs.Walkable.{Ground as GroundOf, IsWalkable};
-ghost use Rattle.exact_job.specs.Ground.{IsGround};
+ghost use Rattle.found_rays.specs.Ground.{IsGround};
 ghost use Rattle.exact_job.specs.Trees.{AreWalks, AreWalksOf};
 
 use crate::walk_tasks::OwnedWalks;

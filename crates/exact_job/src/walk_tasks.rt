@@ -6,17 +6,13 @@ ghost use Rattle.gate_floods.specs.RowJudge.Masks.{rows_of};
 ghost use Rattle.row_trees.specs.Walkable.{Ground as GroundOf, IsWalkable};
 ghost use Rattle.exact_job.specs.Trees.{IsOwnedWalk};
 
-use crate::scene::Scene;
-use crate::scout::{Scout, Search, Searched};
-use crate::traces::Trace;
-use crate::words::row_with;
 use cert_checker::tree_judge::Terrain;
-use task_crew::Tasks;
 use exact_checker::{Owning, owned_row};
 use gate_floods::row_judge::Masks;
 use row_trees::{Made, Walk, walk_by_row};
 use sight_names::Memory;
 use std::alloc::Global;
+use task_crew::Tasks;
 
 /// The group with this number, of so many.
 fn source_of(count: u16, number: usize) -> u16
@@ -59,45 +55,5 @@ impl<'a> Tasks for OwnedWalks<'a> {
             source,
             row.as_slice(),
         )
-    }
-}
-
-/// A group that is searched from, and what its searches met.
-#[derive(Drop)]
-pub struct Sought {
-    pub group: u16,
-    pub trace: Trace,
-}
-
-/// Searches from some groups, by rows of what is wanted of each group.
-#[derive(Drop)]
-pub struct WantedWalks<'a> {
-    pub sought: &'a [Sought],
-    pub wanted: &'a [u64],
-    pub scene: Scene<'a>,
-}
-
-impl<'a> Tasks for WantedWalks<'a> {
-    type Tools = Scout;
-
-    type Done = Searched;
-
-    ghost can_do = { λ w i. i < length w.sought.now };
-
-    ghost is_done = { λ w i made. Unit {0} };
-
-    fn tools(&self, alloc: Global) -> Scout {
-        Scout::new(alloc)
-    }
-
-    fn work(&self, alloc: Global, scout: &mut Scout, number: usize) -> Result<Searched, Memory> {
-        let sought = &self.sought[number];
-        let search = Search {
-            scene: &self.scene,
-            source: sought.group,
-            wanted: row_with(self.wanted, sought.group as usize, self.scene.width),
-            before: &sought.trace,
-        };
-        scout.search(alloc, &search)
     }
 }

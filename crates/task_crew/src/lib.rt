@@ -5,7 +5,13 @@
 mod crew;
 mod hand;
 mod slots;
+mod steps;
 mod tasks;
+mod told;
+mod workers;
 
 pub use crew::{in_turn, shared};
+pub use steps::{Stage, Steps, Watcher, tell_end};
 pub use tasks::Tasks;
+pub use told::shared_told;
+pub use workers::{Alone, InThreads};

@@ -1,13 +1,13 @@
 //! Tasks by two workers that wait for each other: what builds that decide every pair and judges of version 3 share their work by.
 
 use crate::meeting::Meeting;
-use task_crew::{Tasks, shared};
 use sight_names::Memory;
 use sight_workers::Gate;
 use std::alloc::Global;
 use std::sync::atomic::{AtomicU64, Ordering};
 use std::test::Fail;
 use std::thread::Threads;
+use task_crew::{Tasks, shared};
 
 /// Tasks at which a worker passes a gate, and of which it makes its own number: how many got tools before it.
 #[derive(Drop)]

@@ -8,7 +8,6 @@ ghost use Rattle.exact_checker.specs.Owning.{owning_of, IsSized};
 ghost use Rattle.exact_checker.specs.Judged.{AnswersFor, AnswersForEach};
 ghost use Rattle.exact_checker.specs.ExactWorkers.Found.{IsFirstFound};
 
-use task_crew::{Tasks, shared};
 use crate::{Owning, TreeJudges, WrongNode, owned_row};
 use block_evidence::sight_tree::Nodes;
 use cert_checker::tree_judge::Terrain;
@@ -16,6 +15,7 @@ use gate_floods::row_judge::{Masks, RowWalk, judge_by_rows};
 use sight_names::Memory;
 use std::alloc::Global;
 use std::thread::Threads;
+use task_crew::{Tasks, shared};
 
 /// The trees of all groups, and by what they are judged.
 #[derive(Drop)]

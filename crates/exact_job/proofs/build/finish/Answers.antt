@@ -2,7 +2,7 @@ use Rattle.std.proofs.Common.{◌∙◌, ℕ, List, length, map, ap, sym, subst}
 use Rattle.sight_names.specs.declared.names.PairRay.{PairRay}
 use Rattle.sight_names.specs.Plan.{PlanParts}
 use Rattle.group_job.specs.Sectors.{AreOfSectors, ArePairsBelow}
-use Rattle.exact_job.specs.Lines.{pair_of}
+use Rattle.found_rays.specs.Lines.{pair_of}
 use Rattle.exact_job.proofs.Accepting.{accepted, tells}
 use Rattle.exact_job.proofs.Tables.{of_sectors, pairs_below}
 use Rattle.exact_job.proofs.build.finish.Goals as goal

@@ -1,7 +1,7 @@
 use Rattle.std.proofs.Common.{List, subst}
 use Rattle.std.proofs.lemmas.Result.{IfOk-weaker}
 use Rattle.row_trees.specs.declared.made.Made.{Made}
-use Rattle.exact_job.specs.Rays.{AreOneEach}
+use Rattle.found_rays.specs.Rays.{AreOneEach}
 use Rattle.exact_job.specs.Rounds.{AreNoted, HasMore}
 use Rattle.exact_job.proofs.Rounds.{has_more, ranges_same}
 use Rattle.exact_job.proofs.settling.more_rays.Goals as goal

@@ -5,7 +5,7 @@ use Rattle.sight_names.specs.declared.names.PairRay.{PairRay}
 use Rattle.group_job.specs.Marks.{SetsMore, OfSteps}
 use Rattle.group_job.proofs.Marks.{sets_next}
 use Rattle.group_job.proofs.Steps.{ListedStep, listed_set, listed_step}
-use Rattle.exact_job.specs.Lines.{pair_of}
+use Rattle.found_rays.specs.Lines.{pair_of}
 use Rattle.exact_job.proofs.Tables.{pair_low, pair_there}
 use Rattle.exact_job.proofs.table.set_joined.Goals as goal
 

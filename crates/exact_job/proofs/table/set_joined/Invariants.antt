@@ -1,7 +1,7 @@
 use Rattle.std.specs.Prelude.{map}
 use Rattle.group_job.proofs.Steps.{ListedStep}
 use Rattle.group_job.specs.Marks.{SetsMore, OfSteps}
-use Rattle.exact_job.specs.Lines.{pair_of}
+use Rattle.found_rays.specs.Lines.{pair_of}
 use Rattle.exact_job.proofs.table.set_joined.Given as goal
 
 abbrev pub invariant-loop-i : goal.invariant-loop-i

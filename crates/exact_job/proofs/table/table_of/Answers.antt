@@ -3,7 +3,7 @@ use Rattle.sight_names.specs.declared.names.PairRay.{PairRay}
 use Rattle.group_job.specs.Marks.{SetsMore}
 use Rattle.group_job.specs.Sectors.{AreListedByGroups, AreOfSectors}
 use Rattle.group_job.proofs.Marks.{clear_has_none}
-use Rattle.exact_job.specs.Lines.{pair_of}
+use Rattle.found_rays.specs.Lines.{pair_of}
 use Rattle.exact_job.specs.Table.{AreInOneGroup}
 use Rattle.exact_job.proofs.Tables.{table_is}
 use Rattle.exact_job.proofs.table.table_of.Goals as goal

@@ -1,5 +1,0 @@
-use Rattle.exact_job.proofs.Ordering.{ArePicked}
-use Rattle.exact_job.proofs.rays.in_order.Given as goal
-
-abbrev pub invariant-loop-ray : goal.invariant-loop-ray
-invariant-loop-ray l = ArePicked l.ray-items l.ray-index l.rays.items
