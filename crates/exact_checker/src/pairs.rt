@@ -2,11 +2,12 @@
 
 ghost use Rattle.std.specs.Prelude.{◌≡◌, [], length};
 ghost use Rattle.gate_floods.specs.GateMasks.Masks.{IsIn};
+ghost use Rattle.cert_checker.specs.BlindRows.{HasNoGroup};
 ghost use Rattle.cert_checker.specs.Pairs.{Describes};
 ghost use Rattle.exact_checker.specs.Pairs.{known_of, IsFaultAt, IsFine};
 
 use crate::joining::is_in;
-use cert_checker::pairs::{Joins, PairFacts, PairRules, are_sectors_joined};
+use cert_checker::pairs::{Joins, PairFacts, PairRules, are_sectors_joined, has_no_group};
 use face_groups::Group;
 use gate_floods::gate_masks::Row;
 use reject_bits::Table;
@@ -38,6 +39,8 @@ impl<'a> PairRules for Known<'a> {
 
     ghost is_broken = { λ k. IsFaultAt (known_of k) };
 
+    ghost is_blind = { λ k. HasNoGroup k.members.now };
+
     fn fault_of(&self, a: u16, b: u16, given: PairFacts) -> Option<CheckFault> {
         if are_sectors_joined(self, self.members, a, b) {
             if given.set {
@@ -47,5 +50,9 @@ impl<'a> PairRules for Known<'a> {
             return Some(CheckFault::Uncovered { a, b });
         }
         None
+    }
+
+    fn sees_none(&self, a: u16) -> bool {
+        has_no_group(self.members, a)
     }
 }
