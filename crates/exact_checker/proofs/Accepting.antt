@@ -1,49 +1,39 @@
 -- The answer is yes exactly where the certificate of version 3 is accepted.
-use Rattle.std.proofs.Common.{◌≡◌, ℕ, zero, suc, ◌+◌, ◌<◌, ◌↔◌, inl, inr, List, [], ◌∷◌, Some, get_or, length, refl, sym, ◌∙◌, ap, subst, arith}
+use Rattle.std.proofs.Common.{◌≡◌, ℕ, zero, suc, ◌+◌, ◌<◌, ◌↔◌, inl, inr, List, [], ◌∷◌, Some, length, refl, sym, ◌∙◌, ap, subst, arith}
 use Rattle.std.specs.List.{slice_get}
-use Rattle.std.proofs.lemmas.Option.{none-some, slice_get-get_or, slice_get_within, same_Some}
+use Rattle.std.proofs.lemmas.Option.{none-some, same_Some}
 use Rattle.math_base.proofs.Numbers.{either_order}
 use Rattle.sight_names.specs.declared.faults.CheckFault.TheVariants.{Mesh, Ray, Tree as OfTree, ListedSet, Unproved, Uncovered}
-use Rattle.sight_names.specs.declared.faults.MeshFault.{MeshFault}
-use Rattle.sight_names.specs.declared.faults.MeshFault.TheVariants.{Flat, Twice, NoMate, NoTriangle, Meets, Inside}
 use Rattle.sight_names.specs.Plan.{PlanParts, IsPlan}
 use Rattle.sight_names.specs.Map.{Map, map_of}
-use Rattle.sight_names.specs.Mesh.{label_of, IsGoodMesh}
 use Rattle.sight_names.specs.Sound.{LinesMeetAtEnds}
 use Rattle.sight_names.specs.Table.{Rejected}
 use Rattle.sight_names.proofs.Lists.{get_of_contains}
 use Rattle.mesh_base.proofs.PlanFacts.{plan_facts}
-use Rattle.mesh_shape.specs.Faults.{IsFirstFault}
 use Rattle.reject_bits.specs.Parts.{TableParts}
 use Rattle.block_evidence.specs.declared.sight_tree.Node.{Node}
 use Rattle.block_evidence.specs.declared.sight_tree.Tree.{Tree}
 use Rattle.cert_format.specs.Accepted.{triangles_of, labels_of, EitherSet, EitherClear}
 use Rattle.cert_format.specs.declared.cert_groups.cert.CertTwo.{CertTwo}
-use Rattle.cert_format.specs.CertGroups.Grammar.{IsGroupInOrder}
 use Rattle.certificates.specs.declared.cert_exact.cert.ExactParts.{ExactParts}
 use Rattle.certificates.specs.CertExact.Grammar.{as_two, trees_from}
-use Rattle.face_groups.specs.GroupsBase.Named.{AreNamedAt}
-use Rattle.face_groups.specs.GroupsBase.Table.{IsTableFor, IsNamedByTable}
-use Rattle.face_groups.proofs.GroupsBase.CheckedGroups.{table_is_good}
-use Rattle.face_groups.proofs.GroupsBase.SamePoints.{plain_alike, no_line_edge}
-use Rattle.face_groups.proofs.TriSectors.GoodLabels.{label_within}
 use Rattle.cert_checker.specs.AcceptedGroups.Accepted.{IsGroupedSeen}
 use Rattle.cert_checker.specs.declared.verdict.Totals.{Totals}
 use Rattle.cert_checker.specs.declared.verdict.Verdict.{Verdict}
 use Rattle.cert_checker.specs.declared.verdict.Verdict.TheVariants.{Yes as YesOne, No as NoOne}
 use Rattle.cert_checker.specs.Judged.{IsLaterVerdict, JudgesRays}
-use Rattle.cert_checker.proofs.Accepting.{broken_rule, member_at, wrong_ray}
+use Rattle.cert_checker.proofs.Accepting.{member_at, wrong_ray}
 use Rattle.group_checker.specs.declared.grouping.MeshVerdict.TheVariants.{Broken}
 use Rattle.group_checker.specs.declared.verdict.AnyFault.{AnyFault}
 use Rattle.group_checker.specs.declared.verdict.AnyFault.TheVariants.{Check, Group, Unused}
 use Rattle.group_checker.specs.declared.verdict.AnyVerdict.{AnyVerdict}
 use Rattle.group_checker.specs.declared.verdict.AnyVerdict.TheVariants.{Yes, No}
 use Rattle.group_checker.specs.Grouping.{IsGroupedMesh, TellsGrouping}
-use Rattle.group_checker.specs.Meshes.{grouped_map, grouped_plan, IsFirstMeshFault}
+use Rattle.group_checker.specs.Meshes.{grouped_map, grouped_plan}
 use Rattle.group_checker.specs.Judged.{any_of, IsYesAny, JudgesTwo}
+use Rattle.group_checker.proofs.AcceptingTwo.{is_used, named_right, no_mesh_fault, table_for}
 use Rattle.group_checker.proofs.Ending.{its_own}
-use Rattle.cert_checker.proofs.Lists.{each_at}
-use Rattle.group_checker.proofs.OneMap.{one_label_each, has_label, names_grouped, one_map}
+use Rattle.group_checker.proofs.OneMap.{names_grouped, one_map}
 use Rattle.gate_floods.specs.Exact.{IsAcceptedThree, IsClaimed, IsExactOver, TellsAll}
 use Rattle.gate_floods.specs.Bits.{rank_of}
 use Rattle.gate_floods.specs.Rows.{KeepsByRows}
@@ -75,28 +65,6 @@ seen_back c a b (f, k, in_f, in_k, joined) = (k, f, in_k, in_f, joined_back c.ce
 module _ (p : PlanParts) (is : IsPlan p) (t : TableParts) (c : ExactParts) (size : t.n ≡ p.sectors) (three : IsThreeFor p c) where
   -- ---- yes
 
-  table_for : (totals : Totals) → JudgesThree p t c (Yes totals) → IsTableFor (map_of p) (triangles_of (as_two c).cert) c.groups (labels_of (as_two c).cert)
-  table_for totals h =
-      let g = grouped_map p (as_two c) in
-      let names = names_grouped p is (as_two c) in
-      let good = h.mesh.1 in record {
-        plain = plain_alike g (map_of p) (sym names.lines) (triangles_of (as_two c).cert) good.plain;
-        one_each = one_label_each (as_two c);
-        mates = λ k a u e at label has none. good.mates k a u e at label has (no_line_edge g (map_of p) (sym names.lines) e none);
-        sides = λ s l a at named. h.mesh.0 s l a at named;
-        each = λ k lt. each k lt;
-        ascend = three.two.in_order.groups_ascend;
-        used = λ f at there. (
-          (each_at (IsGroupInOrder three.two.sizes.sectors) c.groups f at three.two.in_order.groups there).some,
-          let u = h.groups.1 f (slice_get_within c.groups f at there) in let n = one_label_each (as_two c) in let l = u.1 in (u.0, omega (arith, l, n), u.2),
-        );
-      }
-    where
-      each : (k : ℕ) → k < length (triangles_of (as_two c).cert) → IsNamedByTable (map_of p) (triangles_of (as_two c).cert) c.groups (labels_of (as_two c).cert) k
-      each k lt =
-          let w = has_label p (as_two c) three.two k lt in
-          let there = slice_get-get_or c.groups w.0 [] w.2 in record { f = w.0; at = get_or c.groups w.0 []; label = w.1; there = there; named = h.groups.0 k w.0 (get_or c.groups w.0 []) w.1 there }
-
   below : (a : ℕ) → a < p.sectors → a < t.n
   below a l = omega (arith, l, size)
 
@@ -127,7 +95,7 @@ module _ (p : PlanParts) (is : IsPlan p) (t : TableParts) (c : ExactParts) (size
     grouped_map p (as_two c),
     names_grouped p is (as_two c),
     record {
-      table_for = table_for totals h;
+      table_for = table_for p is (as_two c) three.two totals h.mesh h.groups;
       rays = λ r there. h.rays there.0 r there.1 (get_of_contains c.rays r there.0 there.1 there.2);
       one_each = as_many 0 c.trees ∙ three.one_each ∙ sym (names_grouped p is (as_two c)).sectors;
       trees = λ f u at. let w = there_tree 0 f c.trees u at in tree_right f u (w.0, w.1, ap (λ (k : ℕ). tree_of k w.0) (omega arith) ∙ w.2);
@@ -146,31 +114,6 @@ module _ (p : PlanParts) (is : IsPlan p) (t : TableParts) (c : ExactParts) (size
   over_it a = subst (λ (g : Map). IsExactOver (rank_of c.rays (length c.groups)) (map_of p) t.bytes (as_two c) g) (one_map (map_of p) (plan_facts p is) (triangles_of (as_two c).cert) c.groups (labels_of (as_two c).cert) a.2.table_for a.0 (grouped_map p (as_two c)) a.1 (names_grouped p is (as_two c))) a.2
 
   module _ (all : IsExactOver (rank_of c.rays (length c.groups)) (map_of p) t.bytes (as_two c) (grouped_map p (as_two c))) where
-    good : IsGoodMesh (grouped_map p (as_two c)) (triangles_of (as_two c).cert) (labels_of (as_two c).cert)
-    good = table_is_good (map_of p) (plan_facts p is) (triangles_of (as_two c).cert) c.groups (labels_of (as_two c).cert) all.table_for (grouped_map p (as_two c)) (names_grouped p is (as_two c))
-
-    no_rule_broken : (f : MeshFault) → IsFirstFault (grouped_map p (as_two c)) (triangles_of (as_two c).cert) (labels_of (as_two c).cert) f → ⊥
-    no_rule_broken f h = broken_rule (grouped_map p (as_two c)) (record { n = (grouped_map p (as_two c)).sectors; bytes = [] }) (as_two c).cert refl (triangles_of (as_two c).cert) (labels_of (as_two c).cert) f good h
-
-    no_mesh_fault : (f : MeshFault) → IsFirstMeshFault (map_of p) (grouped_map p (as_two c)) (triangles_of (as_two c).cert) (labels_of (as_two c).cert) f → ⊥
-    no_mesh_fault (Flat k) h = no_rule_broken (Flat k) h
-    no_mesh_fault (Twice k) h = no_rule_broken (Twice k) h
-    no_mesh_fault (NoMate k) h = no_rule_broken (NoMate k) h
-    no_mesh_fault (NoTriangle s) h = h.3.against (λ l a at named. all.table_for.sides s l a at named)
-    no_mesh_fault (Meets k i) h = no_rule_broken (Meets k i) h.1
-    no_mesh_fault (Inside k i) h = no_rule_broken (Inside k i) h.1
-
-    named_right : (k f : ℕ) (at : List ℕ) → label_of (labels_of (as_two c).cert) k ≡ Some f → slice_get c.groups f ≡ Some at → AreNamedAt (map_of p) (triangles_of (as_two c).cert) k at
-    named_right k f at label there =
-        let n = one_label_each (as_two c) in
-        let lt = label_within (labels_of (as_two c).cert) k f label in
-        let x = all.table_for.each k (omega (arith, lt, n)) in
-        let same : x.f ≡ f = same_Some x.f f (sym x.label ∙ label) in
-        subst (AreNamedAt (map_of p) (triangles_of (as_two c).cert) k) (same_Some x.at at (sym x.there ∙ ap (slice_get c.groups) same ∙ there)) x.named
-
-    is_used : (f : ℕ) → f < length c.groups → (k : ℕ) × (k < length (labels_of (as_two c).cert)) × (label_of (labels_of (as_two c).cert) k ≡ Some f)
-    is_used f lt = let u = (all.table_for.used f (get_or c.groups f []) (slice_get-get_or c.groups f [] lt)).1 in let n = one_label_each (as_two c) in let l = u.1 in (u.0, omega (arith, l, n), u.2)
-
     within : (b : ℕ) → b < t.n → b < p.sectors
     within b l = omega (arith, l, size)
 
@@ -183,9 +126,9 @@ module _ (p : PlanParts) (is : IsPlan p) (t : TableParts) (c : ExactParts) (size
     clear_seen a b low low_too (inr none) = seen_back (as_two c) b a (all.clear b a low_too low (λ bit. none (in_table b a bit)))
 
     refused : (f : AnyFault) → JudgesThree p t c (No f) → ⊥
-    refused (Group k) h = h.groups.against (named_right k)
-    refused (Unused f) h = h.groups.1.against (is_used f)
-    refused (Check (Mesh f)) h = no_mesh_fault f h.mesh
+    refused (Group k) h = h.groups.against (named_right p is (as_two c) all.table_for k)
+    refused (Unused f) h = h.groups.1.against (is_used p is (as_two c) all.table_for f)
+    refused (Check (Mesh f)) h = no_mesh_fault p is (as_two c) all.table_for f h.mesh
     refused (Check (Ray a b why)) h = let f = h.rays in wrong_ray (grouped_map p (as_two c)) a b why f.ray (all.rays f.ray (member_at c.rays f.place f.ray f.is)) f.fault
     refused (Check (OfTree s n)) h = let f = h.trees in f.not_kept (all.trees s (tree_of s f.nodes) (tree_there 0 s c.trees f.nodes f.is ∙ ap (λ (k : ℕ). Some (tree_of k f.nodes)) (omega arith))).1
     refused (Check (ListedSet a b)) h = absurd h.pairs

@@ -1,12 +1,12 @@
 -- The masks by half-edges are those of the gates of the map, with what the certificate claims.
-use Rattle.std.proofs.Common.{◌≡◌, ℕ, ◌*◌, ◌<◌, ◌≤◌, List, Option, Some, None, Bool, true, false, not, sym, ◌∙◌, subst, arith}
+use Rattle.std.proofs.Common.{◌≡◌, ℕ, ◌*◌, ◌<◌, ◌≤◌, List, Option, Some, None, sym, ◌∙◌, subst, arith}
 use Rattle.std.specs.List.{slice_get}
-use Rattle.std.specs.Prelude.{IfSome, option_map}
+use Rattle.std.specs.Prelude.{option_map}
 use Rattle.std.proofs.lemmas.Option.{same_Some, slice_get_within}
 use Rattle.math_base.proofs.Bools.{by_value}
 use Rattle.sight_names.specs.declared.names.Triangle.{Triangle}
 use Rattle.sight_names.specs.Plan.{PlanParts, IsPlan}
-use Rattle.sight_names.specs.Map.{Map, MapLine, IsMap, IsMapLine, map_of, sector_on}
+use Rattle.sight_names.specs.Map.{Map, IsMap, map_of}
 use Rattle.sight_names.specs.Mesh.{IsGoodMesh}
 use Rattle.sight_names.specs.Sequence.{Portal, IsSolidLine}
 use Rattle.sight_names.proofs.PlanMap.{plan_is_map}
@@ -15,7 +15,7 @@ use Rattle.mesh_shape.specs.HalfEdges.HalfEdges.{portal_of, AreHalfEdges, IsHalf
 use Rattle.cert_format.specs.Parts.{CertParts}
 use Rattle.gate_floods.specs.Exact.{IsClaimed}
 use Rattle.gate_floods.specs.Gates.{IsGate, IsBeyond, here, further, IsInMask}
-use Rattle.gate_floods.proofs.Flooding.{door_of_gate}
+use Rattle.gate_floods.proofs.Connected.{far_below}
 use Rattle.gate_floods.specs.declared.gate_masks.masks.Row.{Row}
 use Rattle.gate_floods.specs.GateMasks.Masks as by_side
 use Rattle.gate_floods.specs.GateMasks.Masks.{IsLeftOut}
@@ -35,19 +35,9 @@ use Rattle.cert_checker.proofs.TreeJudge.OneTree.{edge_of_number}
 -- ---- what lies beyond a gate is a sector of the map
 
 module _ (m : Map) (is_map : IsMap m) where
-  named_below : (n : ℕ) (o : Option ℕ) (a : ℕ) → IfSome o (λ b. b < n) → o ≡ Some a → a < n
-  named_below n o a h e = subst (λ (x : Option ℕ). IfSome x (λ b. b < n)) e h
-
-  side_below : (l : MapLine) (left : Bool) (a : ℕ) → IsMapLine m.sectors l → sector_on l left ≡ Some a → a < m.sectors
-  side_below l true a h e = named_below m.sectors l.left a h.left e
-  side_below l false a h e = named_below m.sectors l.right a h.right e
-
-  far_below : (b d : ℕ) (p : Portal) → IsGate m b d p → d < m.sectors
-  far_below b d p gate = let h = door_of_gate m b d p gate in side_below h.line (not h.left) d (is_map h.number h.line h.is) h.to
-
   beyond_below : (Claims : ℕ → ℕ → Type 0) (b d : ℕ) (p : Portal) → IsGate m b d p → (c : ℕ) → IsBeyond m Claims b d p c → c < m.sectors
-  beyond_below Claims b d p gate c (here e) = subst (λ (x : ℕ). x < m.sectors) (sym e) (far_below b d p gate)
-  beyond_below Claims b d p gate c (further x q h none through may) = far_below x c q through
+  beyond_below Claims b d p gate c (here e) = subst (λ (x : ℕ). x < m.sectors) (sym e) (far_below m is_map b d p gate)
+  beyond_below Claims b d p gate c (further x q h none through may) = far_below m is_map x c q through
 
 -- ---- the mask of the gate by which one comes in
 

@@ -5,4 +5,5 @@ pub mod Gated
 pub mod SectorPairs
 pub mod Judging
 pub mod Accepting
+pub mod OneExact
 pub mod ExactWorkers

@@ -1,5 +1,6 @@
 -- Ranks, and the row of what a group owns, word by word.
 use Rattle.std.proofs.Common.{◌≡◌, ◌≢◌, ℕ, zero, suc, ◌+◌, ◌-◌, ◌*◌, ◌/◌, ◌%◌, ◌^◌, ◌<◌, ◌≤◌, min, max, ◌⊎◌, ◌↔◌, inl, inr, List, [], ◌∷◌, ◌++◌, length, get_or, Some, Bool, true, false, not, ◌==◌, ◌&&◌, ◌||◌, slice_index, slice_set, bit_and, bit_or, refl, sym, ◌∙◌, ap, subst, arith}
+use Rattle.std.specs.Cmp.{both_ways}
 use Rattle.std.specs.List.{slice_get}
 use Rattle.std.specs.Int.{bit_at, bit_not, w64}
 use Rattle.std.specs.Int.Count.{ones}
@@ -130,17 +131,12 @@ is_in_of ws c h = tells_same (bit_at (slice_index ws (c / 64)) (c % 64)) 1 h
 pub of_is_in : (ws : List ℕ) (c : ℕ) → is_in ws c ≡ true → HasBit ws c
 of_is_in ws c h = is_told_same (bit_at (slice_index ws (c / 64)) (c % 64)) 1 h
 
-pub same_values : (b c : Bool) → (b ≡ true → c ≡ true) → (c ≡ true → b ≡ true) → b ≡ c
-same_values true c to back = sym (to refl)
-same_values false true to back = back refl
-same_values false false to back = refl
-
 -- ---- ranks
 
 module _ (n : ℕ) (rays : List PairRay) (rows : List Row) (all : AreJoinedRows n rays rows) where
   -- below n the row of a group has the bits of what is joined with it
   joined_bit : (f : ℕ) (r : Row) → slice_get rows f ≡ Some r → (k : ℕ) → k < n → is_in r.words.items k ≡ is_joined rays f k
-  joined_bit f r at k lt = same_values (is_in r.words.items k) (is_joined rays f k) (λ h. ((all.bits f r at k).0 (of_is_in r.words.items k h)).1) (λ h. is_in_of r.words.items k ((all.bits f r at k).1 (lt, h)))
+  joined_bit f r at k lt = both_ways (is_in r.words.items k) (is_joined rays f k) (λ h. ((all.bits f r at k).0 (of_is_in r.words.items k h)).1) (λ h. is_in_of r.words.items k ((all.bits f r at k).1 (lt, h)))
 
   joined_told : (f k : ℕ) → IsIn rows f k → is_joined rays f k ≡ true
   joined_told f k w = ((all.bits f w.0 w.1 k).0 w.2).1

@@ -41,7 +41,7 @@ module _ (m : Map) (ts : List Triangle) (ls : List (Option ℕ)) (Claims Owns : 
     -- the far sector of a gate on the way isn't claimed not to see c: it does by a shorter sequence
     unclaimed : (p : Portal) (b d : ℕ) → Contains r.portals p → IsGate m b d p → ¬ Claims d c
     unclaimed p b d there gate claim =
-        let e = gate_enters m is_map ts ls good b d p gate in
+        let e = gate_enters m ts ls good b d p gate in
         none d c claim (cut_behind m is_map ts ls good r.line.0 r.line.1 r.line.2 d c (λ q. (owned d c claim).0 (sym q)) a n r.sequence r.portals p e.0 r.is r.line.3 r.arrives r.few there e.1 e.2)
 
     -- c stays in the row behind the first ones of the portals

@@ -4,15 +4,17 @@ use Rattle.std.specs.Prelude.{option_map, option_and_then}
 use Rattle.std.proofs.lemmas.List.{length-append}
 use Rattle.sight_names.specs.declared.names.Triangle.{Triangle}
 use Rattle.sight_names.specs.Map.{Map, MapLine, IsMap, line_at, sector_on}
+use Rattle.sight_names.specs.Points.{Edge, reverse_of}
 use Rattle.sight_names.specs.Mesh.{IsGoodMesh, triangle_at, label_of, side_edge}
 use Rattle.sight_names.specs.Sequence.{Portal, Way, Splits, IsSolidLine, way_out, entry_edge, apex, portals_from, reached}
 use Rattle.sight_names.proofs.Lists.{contains_cases}
+use Rattle.math_base.proofs.Bools.{not_not}
 use Rattle.math_base.proofs.Options.{some_is_same}
 use Rattle.math_base.proofs.Lists.{contains_none, all_front}
 use Rattle.mesh_base.proofs.GoodMesh.{PointFacts, same_or_not}
 use Rattle.mesh_base.proofs.MapFacts.{map_facts}
 use Rattle.sight_lift.proofs.Behind.{behind}
-use Rattle.sight_lift.proofs.Doors.{Door, Link, way_over, named_is}
+use Rattle.sight_lift.proofs.Doors.{Door, Link, way_over, other_edge, named_is}
 use Rattle.sight_lift.proofs.Sequences.{next_portals, root_is}
 use Rattle.sight_lift.proofs.Tails.{IsCrossed, root_listed, root_portal_is}
 use Rattle.gate_floods.specs.Reaching.{ReachesWithin}
@@ -50,6 +52,32 @@ door_of_gate m b d p g =
         of : MapLine → Portal
         of k = let e = side_edge m k (not g.side.left) in record { left = e.from; right = e.to }
 
+-- ---- the triangles on both sides of a gate
+
+module _ (m : Map) (ts : List Triangle) (ls : List (Option ℕ)) (good : IsGoodMesh m ts ls) where
+  -- a gate leads into a triangle of its far sector
+  pub gate_enters : (b d : ℕ) (p : Portal) → IsGate m b d p → (k : ℕ) × (triangle_at ts (entry_edge p) ≡ Some k) × (label_of ls k ≡ Some d)
+  gate_enters b d p g =
+      let h = door_of_gate m b d p g in
+      let f = good.fits.sides (record { line = h.number; left = not h.left }) h.line d h.is (named_is m h.number h.line (not h.left) d h.is h.to) in
+      (f.0, ap (triangle_at ts) h.edge ∙ f.1, f.2)
+
+  -- and comes out of one of its near sector
+  gate_leaves : (b d : ℕ) (p : Portal) → IsGate m b d p → (k : ℕ) × (triangle_at ts (reverse_of (entry_edge p)) ≡ Some k) × (label_of ls k ≡ Some b)
+  gate_leaves b d p g =
+      let h = door_of_gate m b d p g in
+      let f = good.fits.sides (record { line = h.number; left = h.left }) h.line b h.is (named_is m h.number h.line h.left b h.is h.from) in
+      (f.0, ap (λ (e : Edge). triangle_at ts (reverse_of e)) h.edge ∙ ap (triangle_at ts) (other_edge m h.line (not h.left) ∙ ap (side_edge m h.line) (not_not h.left)) ∙ f.1, f.2)
+
+  -- so a portal is a gate between two sectors at most
+  pub one_gate : (b d e f : ℕ) (p : Portal) → IsGate m b d p → IsGate m e f p → (b ≡ e) × (d ≡ f)
+  one_gate b d e f p g h =
+      let x = gate_leaves b d p g in
+      let y = gate_leaves e f p h in
+      let v = gate_enters b d p g in
+      let w = gate_enters e f p h in
+      (some_is_same b e (sym x.2 ∙ ap (label_of ls) (some_is_same x.0 y.0 (sym x.1 ∙ y.1)) ∙ y.2), some_is_same d f (sym v.2 ∙ ap (label_of ls) (some_is_same v.0 w.0 (sym v.1 ∙ w.1)) ∙ w.2))
+
 -- ---- what splits all portals splits those in front
 
 front_splits : (m : Map) (x y z : ℤ) (front back : List Portal) → Splits m (front ++ back) x y z → Splits m front x y z
@@ -59,13 +87,6 @@ front_splits m x y z (p ∷ front) back h = (h.0, front_splits m x y z front bac
 module _ (m : Map) (is_map : IsMap m) (ts : List Triangle) (ls : List (Option ℕ)) (good : IsGoodMesh m ts ls) where
   facts : PointFacts m
   facts = map_facts m is_map
-
-  -- a gate leads into a triangle of its far sector
-  pub gate_enters : (b d : ℕ) (p : Portal) → IsGate m b d p → (k : ℕ) × (triangle_at ts (entry_edge p) ≡ Some k) × (label_of ls k ≡ Some d)
-  gate_enters b d p g =
-      let h = door_of_gate m b d p g in
-      let f = good.fits.sides (record { line = h.number; left = not h.left }) h.line d h.is (named_is m h.number h.line (not h.left) d h.is h.to) in
-      (f.0, ap (triangle_at ts) h.edge ∙ f.1, f.2)
 
   module _ (Claims : ℕ → ℕ → Type 0) (x y z : ℤ) where
     -- no sector reached before the last of these portals is claimed unseen by b
@@ -113,7 +134,7 @@ module _ (m : Map) (is_map : IsMap m) (ts : List Triangle) (ls : List (Option �
       -- what follows a gate of b reaches, before its last portal, nothing that b is claimed not to see
       none_claimed : (b d : ℕ) (p : Portal) (qs : List Portal) → IsGate m b d p → NoWalls m is_map ts ls good (p ∷ qs) → Splits m (p ∷ qs) x y z → length qs ≤ n → NoneClaimed b p qs
       none_claimed b d p qs gate walls split few us front back r e from parts reach claim =
-          let k = gate_enters b d p gate in
+          let k = gate_enters m ts ls good b d p gate in
           let other : ¬ (e ≡ b) = λ s. differ b e claim (sym s) in
           let walls2 : NoWalls m is_map ts ls good (p ∷ front) = all_front (λ (q : Portal). ¬ IsSolidLine m q) (p ∷ front) (r ∷ back) (subst (λ (rs : List Portal). NoWalls m is_map ts ls good (p ∷ rs)) parts walls) in
           let split2 : Splits m (p ∷ front) x y z = front_splits m x y z (p ∷ front) (r ∷ back) (subst (λ (rs : List Portal). Splits m (p ∷ rs) x y z) parts split) in
@@ -128,7 +149,7 @@ module _ (m : Map) (is_map : IsMap m) (ts : List Triangle) (ls : List (Option �
       -- what follows the gate reaches lies beyond it
       beyond_here : (b d c : ℕ) (p : Portal) → IsGate m b d p → (ws : List Way) (qs : List Portal) → portals_from ts (Some p) ws ≡ Some (p ∷ qs) → NoWalls m is_map ts ls good (p ∷ qs) → Splits m (p ∷ qs) x y z → reached ts ls (p ∷ qs) ≡ Some c → length qs ≤ n → IsBeyond m Claims b d p c
       beyond_here b d c p gate ws qs from walls split arrives few =
-          let e = gate_enters b d p gate in
+          let e = gate_enters m ts ls good b d p gate in
           flooded b d p split.0 ws p qs e.0 d c from e.1 e.2 (here refl) (inl refl) walls split arrives (none_claimed b d p qs gate walls split few)
 
       -- and so of each gate on the way

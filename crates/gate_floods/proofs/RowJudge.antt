@@ -7,4 +7,5 @@ pub mod Walking
 pub mod Nodes
 pub mod Trees
 pub mod Telling
+pub mod OneRow
 pub mod Answered

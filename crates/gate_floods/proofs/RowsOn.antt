@@ -1,39 +1,19 @@
 -- What is in a row one portal further on: behind a gate what its mask has too, elsewhere the same.
-use Rattle.std.proofs.Common.{◌≡◌, ℕ, inl, inr, List, [], ◌∷◌, ◌++◌, Option, Some, not, Contains, sym, ap, ◌∙◌, subst}
+use Rattle.std.proofs.Common.{ℕ, inl, inr, List, [], ◌∷◌, ◌++◌, Option, Contains, sym, subst}
 use Rattle.std.specs.Prelude.{◌↔◌}
 use Rattle.sight_names.specs.declared.names.Triangle.{Triangle}
 use Rattle.sight_names.specs.Map.{Map, IsMap}
-use Rattle.sight_names.specs.Points.{Edge, reverse_of}
-use Rattle.sight_names.specs.Mesh.{IsGoodMesh, triangle_at, label_of, side_edge}
-use Rattle.sight_names.specs.Sequence.{Portal, entry_edge}
+use Rattle.sight_names.specs.Mesh.{IsGoodMesh}
+use Rattle.sight_names.specs.Sequence.{Portal}
 use Rattle.sight_names.proofs.Lists.{contains_cases}
 use Rattle.math_base.proofs.Lists.{contains_none, contains_here, contains_left, contains_right, contains_append}
-use Rattle.math_base.proofs.Options.{some_is_same}
-use Rattle.sight_lift.proofs.Doors.{other_edge, named_is}
-use Rattle.math_base.proofs.Bools.{not_not}
 use Rattle.gate_floods.specs.Gates.{IsGate, IsInMask}
 use Rattle.gate_floods.specs.Rows.{IsInRow}
 use Rattle.gate_floods.specs.Exact.{IsClaimed, IsOwned}
 use Rattle.gate_floods.specs.Laws.{RowsGoOn}
-use Rattle.gate_floods.proofs.Flooding.{door_of_gate, gate_enters}
+use Rattle.gate_floods.proofs.Flooding.{one_gate}
 
 module _ (m : Map) (is_map : IsMap m) (ts : List Triangle) (ls : List (Option ℕ)) (good : IsGoodMesh m ts ls) where
-  -- a gate comes out of a triangle of its near sector
-  gate_leaves : (b d : ℕ) (p : Portal) → IsGate m b d p → (k : ℕ) × (triangle_at ts (reverse_of (entry_edge p)) ≡ Some k) × (label_of ls k ≡ Some b)
-  gate_leaves b d p g =
-      let h = door_of_gate m b d p g in
-      let f = good.fits.sides (record { line = h.number; left = h.left }) h.line b h.is (named_is m h.number h.line h.left b h.is h.from) in
-      (f.0, ap (λ (e : Edge). triangle_at ts (reverse_of e)) h.edge ∙ ap (triangle_at ts) (other_edge m h.line (not h.left) ∙ ap (side_edge m h.line) (not_not h.left)) ∙ f.1, f.2)
-
-  -- so a portal is a gate between two sectors at most
-  one_gate : (b d e f : ℕ) (p : Portal) → IsGate m b d p → IsGate m e f p → (b ≡ e) × (d ≡ f)
-  one_gate b d e f p g h =
-      let x = gate_leaves b d p g in
-      let y = gate_leaves e f p h in
-      let v = gate_enters m is_map ts ls good b d p g in
-      let w = gate_enters m is_map ts ls good e f p h in
-      (some_is_same b e (sym x.2 ∙ ap (label_of ls) (some_is_same x.0 y.0 (sym x.1 ∙ y.1)) ∙ y.2), some_is_same d f (sym v.2 ∙ ap (label_of ls) (some_is_same v.0 w.0 (sym v.1 ∙ w.1)) ∙ w.2))
-
   module _ (Claims : ℕ → ℕ → Type 0) (Keeps : ℕ → Type 0) where
     row_front : (ps : List Portal) (p : Portal) (c : ℕ) → IsInRow m Claims Keeps (ps ++ p ∷ []) c → IsInRow m Claims Keeps ps c
     row_front ps p c h = record { keeps = h.keeps; masked = λ q b d there gate. h.masked q b d (contains_left q ps (p ∷ []) there) gate }
@@ -60,7 +40,7 @@ module _ (m : Map) (is_map : IsMap m) (ts : List Triangle) (ls : List (Option �
     row_behind ps p b d c gate h = (row_front ps p c h, h.masked p b d (contains_right p ps (p ∷ []) (contains_here p [])) gate)
 
     pub row_masked : (ps : List Portal) (p : Portal) (b d c : ℕ) → IsGate m b d p → IsInRow m Claims Keeps ps c → IsInMask m Claims b d p c → IsInRow m Claims Keeps (ps ++ p ∷ []) c
-    row_masked ps p b d c gate h mask = row_more ps p c h (λ e f other. let o = one_gate b d e f p gate other in subst (λ (x : ℕ). IsInMask m Claims e x p c) o.1 (subst (λ (x : ℕ). IsInMask m Claims x d p c) o.0 mask))
+    row_masked ps p b d c gate h mask = row_more ps p c h (λ e f other. let o = one_gate m ts ls good b d e f p gate other in subst (λ (x : ℕ). IsInMask m Claims e x p c) o.1 (subst (λ (x : ℕ). IsInMask m Claims x d p c) o.0 mask))
 
     pub goes_on : (c : ℕ) → (IsInRow m Claims Keeps [] c ↔ Keeps c)
         × ((ps : List Portal) (p : Portal) → ((b d : ℕ) → ¬ IsGate m b d p) → (IsInRow m Claims Keeps (ps ++ p ∷ []) c ↔ IsInRow m Claims Keeps ps c))

@@ -5,6 +5,7 @@ use Rattle.std.proofs.lemmas.List.{length-map}
 use Rattle.std.proofs.lemmas.Option.{same_Some}
 use Rattle.math_base.proofs.Lists.{contains_here}
 use Rattle.math_base.proofs.Numbers.{same_or_not}
+use Rattle.math_base.proofs.Options.{one_value}
 use Rattle.sight_names.proofs.Lists.{contains_tail}
 use Rattle.sight_names.specs.declared.names.Side.{Side}
 use Rattle.sight_names.specs.declared.names.Triangle.{Triangle}
@@ -27,7 +28,6 @@ use Rattle.mesh_shape.specs.HalfEdges.HalfEdges.{portal_of, way_outside, IsHalfE
 use Rattle.mesh_shape.proofs.HalfEdges.Reached.{other_edges}
 use Rattle.gate_floods.specs.Gates.{other_side}
 use Rattle.cert_checker.specs.TreeJudge.Roots.{root_edge, way_out_of}
-use Rattle.cert_checker.proofs.TreeJudge.OneTree.{same_some}
 use Rattle.portal_walk.specs.declared.scene.Way.{Way as WayOut}
 use Rattle.portal_walk.specs.declared.scene.Way.TheVariants.{Left, Right}
 use Rattle.portal_walk.specs.Pending.{way_of}
@@ -55,7 +55,7 @@ module _ (c : Scene) (s : Search) (w : IsWalkable s.ground c.edges c.roots c.fir
 
   -- what stands at a number is a half-edge
   half_at : (k : ℕ) (x : HalfEdge) → IsNumber s.ground.triangles k → slice_get c.edges k ≡ Some x → (e : Edge) × IsHalfEdge s.ground.plan s.ground.triangles s.ground.labels c.edges e x
-  half_at k x (e, number) there = let h = w.edges.each e k number in (e, subst (IsHalfEdge s.ground.plan s.ground.triangles s.ground.labels c.edges e) (same_some h.0 x (slice_get c.edges k) h.1 there) h.2)
+  half_at k x (e, number) there = let h = w.edges.each e k number in (e, subst (IsHalfEdge s.ground.plan s.ground.triangles s.ground.labels c.edges e) (one_value (slice_get c.edges k) h.0 x h.1 there) h.2)
 
   pub label_at : (k : ℕ) (x : HalfEdge) → IsNumber s.ground.triangles k → slice_get c.edges k ≡ Some x → label_of s.ground.labels x.triangle ≡ x.sector
   label_at k x number there = (half_at k x number there).1.label

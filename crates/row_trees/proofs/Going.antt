@@ -3,7 +3,7 @@ use Rattle.std.proofs.Common.{◌≡◌, ◌≢◌, ℕ, ◌+◌, ◌<◌, ◌�
 use Rattle.std.specs.List.{AllByRecursion}
 use Rattle.std.proofs.lemmas.List.{length-append, length-take, take-append-le, take-take, take_all}
 use Rattle.math_base.proofs.Lists.{all_join, all_so}
-use Rattle.math_base.proofs.Options.{some_is_same}
+use Rattle.math_base.proofs.Options.{one_value, some_is_same}
 use Rattle.sight_names.specs.Splitting.{EndPoints, IsSplittable}
 use Rattle.block_evidence.specs.declared.Evidence.{Evidence}
 use Rattle.block_evidence.specs.Stuck.{Blocks}
@@ -16,7 +16,6 @@ use Rattle.cert_checker.specs.declared.tree_judge.roots.Root.{Root}
 use Rattle.cert_checker.specs.declared.tree_judge.trees.Frame.{Frame}
 use Rattle.cert_checker.specs.TreeJudge.Path.{path_ends}
 use Rattle.cert_checker.specs.TreeJudge.Walked.{with_node}
-use Rattle.cert_checker.proofs.TreeJudge.OneTree.{same_some}
 use Rattle.portal_walk.specs.declared.scene.Way.TheVariants.{Left, Right}
 use Rattle.portal_walk.specs.Scene.{IsNumber}
 use Rattle.portal_walk.specs.Walk.{ends_of}
@@ -190,7 +189,7 @@ module _ (c : Scene) (s : Search) where
       path_is = h.front ∙ ap (λ (k : ℕ). take k ends) (a.long ∙ t.depth) ∙ take_all (length ends) ends (omega arith)
 
       same : h.edge ≡ x
-      same = same_some h.edge x (slice_get c.edges t.number) h.there t.there
+      same = one_value (slice_get c.edges t.number) h.edge x h.there t.there
 
   -- ---- the ways behind it
 

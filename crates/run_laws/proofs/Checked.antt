@@ -29,7 +29,7 @@ use Rattle.certificates.specs.Grammar.{Spells}
 use Rattle.certificates.proofs.Again.{certificate_again}
 use Rattle.gate_floods.specs.Exact.{IsAcceptedThree}
 use Rattle.any_judge.specs.Accepted.{IsAccepted as IsAcceptedBy}
-use Rattle.any_judge.proofs.OneExact.{told_same as told_same_of_three}
+use Rattle.exact_checker.proofs.OneExact.{told_same as told_same_of_three}
 use Rattle.cert_checker.specs.AcceptedGroups.Accepted.{IsAccepted, IsAcceptedOn, IsAcceptedTwo, IsAlone}
 use Rattle.reject_bits.specs.Parts.{TableParts}
 use Rattle.cert_checker.specs.declared.verdict.Totals.{Totals}

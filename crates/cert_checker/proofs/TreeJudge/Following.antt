@@ -14,6 +14,7 @@ use Rattle.cert_checker.specs.declared.tree_judge.trees.Follow.{Follow}
 use Rattle.cert_checker.specs.TreeJudge.Path.{list_of, path_ends, edge_ends, PutsAt, Pending, pending_way, root_pending, IsAt, with_asked, ways_behind, TakesNext, EntersThrough}
 use Rattle.cert_checker.specs.TreeJudge.Whole.{ends_through, ways_through, Notes, HasAnswered, HasRefused, StandsBefore}
 use Rattle.cert_checker.proofs.TreeJudge.Ways.{waiting_same}
+use Rattle.math_base.proofs.Options.{one_value}
 use Rattle.cert_checker.proofs.TreeJudge.Noting.{notes_none}
 
 abbrev pub at_first : Option ℕ → Follow
@@ -69,9 +70,6 @@ module _ (xs : List HalfEdge) (roots : List Root) (source : ℕ) (path : List Fr
   -- ---- a node that doesn't
 
   -- the ends show nothing
-  one_edge : (x y : HalfEdge) (o : Option HalfEdge) → o ≡ Some x → o ≡ Some y → x ≡ y
-  one_edge x y o e f = cc
-
   untrue : IsTrue false → ⊥
   untrue e = cc
 
@@ -85,4 +83,4 @@ module _ (xs : List HalfEdge) (roots : List Root) (source : ℕ) (path : List Fr
           same = same_first p (present place) rest (others a) ps first (present_first ps place h a)
 
           found : y ≡ x
-          found = one_edge y x (slice_get xs place) (ap (λ (q : Pending). slice_get xs q.edge) (sym same) ∙ at) is
+          found = one_value (slice_get xs place) y x (ap (λ (q : Pending). slice_get xs q.edge) (sym same) ∙ at) is

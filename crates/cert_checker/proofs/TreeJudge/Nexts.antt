@@ -7,10 +7,7 @@ use Rattle.cert_checker.specs.declared.tree_judge.trees.Frame.{Frame}
 use Rattle.cert_checker.specs.declared.tree_judge.trees.Wait.{Wait}
 use Rattle.cert_checker.specs.declared.tree_judge.trees.Follow.{Follow}
 use Rattle.cert_checker.specs.TreeJudge.Path.{AsksRoot, path_ends, StandsAt, IsWaiting, Pending, IsChain, root_pending, IsAt, with_asked, TakesNext}
-use Rattle.math_base.proofs.Options.{some_is_not_none}
-
-one_some : {A : Type 0} (x y : A) (o : Option A) → o ≡ Some x → o ≡ Some y → x ≡ y
-one_some x y o e f = cc
+use Rattle.math_base.proofs.Options.{one_value, some_is_not_none}
 
 -- ---- a way is asked
 
@@ -36,7 +33,7 @@ takes_way roots path waits old w (k, q, is) = record { next = λ es ws c h. go e
         at = omega (arith, q, r)
 
         same : v ≡ w
-        same = one_some v w (slice_get waits j) this (ap (slice_get waits) (sym at) ∙ is)
+        same = one_value (slice_get waits j) v w this (ap (slice_get waits) (sym at) ∙ is)
 
 -- ---- no way waits, and a root is asked, if there is one
 
@@ -59,7 +56,7 @@ takes_from_root roots path waits old asked next none a = record { next = λ es w
     }
       where
         is : s ≡ r
-        is = one_some s r (option_and_then (slice_get roots) old.root) (ap (λ (u : Option ℕ). option_and_then (slice_get roots) u) o ∙ h) at
+        is = one_value (option_and_then (slice_get roots) old.root) s r (ap (λ (u : Option ℕ). option_and_then (slice_get roots) u) o ∙ h) at
 
     by_none : option_and_then (slice_get roots) old.root ≡ None → (es : List ℕ) → IsChain roots old.root es → IsAt roots path waits (with_asked (on_root old old.root) None) (map root_pending es)
     by_none at [] c = record { es = []; ways = []; chain = c; waiting = refl; nested = omega arith; all = refl; last = λ n. refl }

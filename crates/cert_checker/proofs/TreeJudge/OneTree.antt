@@ -31,10 +31,8 @@ use Rattle.cert_checker.specs.TreeJudge.Trees.{IsFirstTreeNotWhole}
 use Rattle.cert_checker.proofs.TreeJudge.OneAnswer.{one_answer}
 use Rattle.math_base.proofs.Numbers.{tells_other, tells_same, below_same_or_above}
 use Rattle.math_base.proofs.Lists.{get_there}
+use Rattle.math_base.proofs.Options.{one_value}
 use Rattle.mesh_base.proofs.CleanMesh.{edge_rp, edge_qr, edge_pq}
-
-pub same_some : {X : Type 0} (x y : X) (o : Option X) → o ≡ Some x → o ≡ Some y → x ≡ y
-same_some x y o e f = cc
 
 -- ---- each number is that of an edge
 
@@ -163,7 +161,7 @@ plain_roots m ts xs source = each (roots_of m source)
 
 -- two lists of one map's half-edges are equal, made plain
 module _ (m : Map) (ts : List Triangle) (ls : List (Option ℕ)) (good : IsGoodMesh m ts ls) (p q : PlanParts) (of_p : map_of p ≡ m) (of_q : map_of q ≡ m) where
-  one_plain : (e : Edge) (x y : HalfEdge) (xs ys : List HalfEdge) → IsHalfEdge p ts ls xs e x → IsHalfEdge q ts ls ys e y → ((d : Edge) → entering ts xs d ≡ entering ts ys d) → plain x ≡ plain y
+  pub one_plain : (e : Edge) (x y : HalfEdge) (xs ys : List HalfEdge) → IsHalfEdge p ts ls xs e x → IsHalfEdge q ts ls ys e y → ((d : Edge) → entering ts xs d ≡ entering ts ys d) → plain x ≡ plain y
   one_plain e x y xs ys f g ways = all left right apex (f.left_at ∙ place_of x.left y.left left ∙ sym g.left_at) (f.right_at ∙ place_of x.right y.right right ∙ sym g.right_at) triangle (sym f.label ∙ ap (label_of ls) triangle ∙ g.label)
       (one_solid x.solid y.solid refl refl)
       (f.left_way ∙ ways (edge x.left x.apex) ∙ (λ i. entering ts ys (edge (left i) (apex i))) ∙ sym g.left_way) (f.right_way ∙ ways (edge x.apex x.right) ∙ (λ i. entering ts ys (edge (apex i) (right i))) ∙ sym g.right_way)
@@ -201,7 +199,7 @@ module _ (m : Map) (ts : List Triangle) (ls : List (Option ℕ)) (good : IsGoodM
       all a b c d e f g h j k = λ i. record { left = a i; right = b i; apex = c i; left_at = d i; right_at = e i; triangle = f i; sector = g i; solid = h i; entered = None; left_way = j i; right_way = k i }
 
   -- the ways of the two agree
-  one_way : (xs ys : List HalfEdge) → AreHalfEdges p ts ls xs → AreHalfEdges q ts ls ys → (d : Edge) → entering ts xs d ≡ entering ts ys d
+  pub one_way : (xs ys : List HalfEdge) → AreHalfEdges p ts ls xs → AreHalfEdges q ts ls ys → (d : Edge) → entering ts xs d ≡ entering ts ys d
   one_way xs ys f g d = at (entering ts xs d) (entering ts ys d) refl refl
     where
       to : IsSolidLine (map_of p) (portal_on d) → IsSolidLine (map_of q) (portal_on d)
@@ -240,38 +238,16 @@ module _ (m : Map) (ts : List Triangle) (ls : List (Option ℕ)) (good : IsGoodM
 
 module _ (xs : List HalfEdge) (source : ℕ) where
   -- a node that is answered isn't the first wrong one
-  not_yet : (ns : List Node) (k : ℕ) (ps left last : List Pending) (some all : List ℕ) → k < length ns → AreAnswered xs source ps (take k ns) left some → AreAnswered xs source ps ns last all
-      → ((n : Node) → slice_get ns k ≡ Some n → (qs : List Pending) (here : List ℕ) → ¬ Answers xs source left n qs here) → ⊥
-  not_yet [] k ps left last some all l before whole wrong = omega (arith, l)
-  not_yet (n ∷ ns) zero ps left last some all l before (rs, here, more, answer, behind, e) wrong = wrong n refl rs here (subst (λ (us : List Pending). Answers xs source us n rs here) (sym before.0) answer)
-  not_yet (n ∷ ns) (suc k) ps left last some all l (us, there, others, first, before, f) (rs, here, more, answer, behind, e) wrong =
-      not_yet ns k us left last others more (omega (arith, l)) before (subst (λ (qs : List Pending). AreAnswered xs source qs ns last more) (one_answer xs source n ps rs us here there answer first).0 behind) wrong
-
-  take_take : (ns : List Node) (j k : ℕ) → j < k → take j (take k ns) ≡ take j ns
-  take_take ns zero (suc k) l = zero_both ns k
-    where
-      zero_both : (ns : List Node) (k : ℕ) → take 0 (take (suc k) ns) ≡ take 0 ns
-      zero_both [] k = refl
-      zero_both (n ∷ ns) k = refl
-  take_take [] (suc j) (suc k) l = refl
-  take_take (n ∷ ns) (suc j) (suc k) l = ap (λ (us : List Node). n ∷ us) (take_take ns j k (omega (arith, l)))
-  take_take ns j zero l = absurd (omega (arith, l))
-
-  get_take : (ns : List Node) (j k : ℕ) → j < k → slice_get (take k ns) j ≡ slice_get ns j
-  get_take [] j (suc k) l = refl
-  get_take (n ∷ ns) zero (suc k) l = refl
-  get_take (n ∷ ns) (suc j) (suc k) l = get_take ns j k (omega (arith, l))
-  get_take ns j zero l = absurd (omega (arith, l))
-
-  long_take : (ns : List Node) (j k : ℕ) → j < k → k ≤ length ns → j < length (take k ns)
-  long_take [] j k l h = absurd (omega (arith, l, h))
-  long_take (n ∷ ns) zero (suc k) l h = omega arith
-  long_take (n ∷ ns) (suc j) (suc k) l h = let r = long_take ns j k (omega (arith, l)) (omega (arith, h)) in omega (arith, r)
-  long_take (n ∷ ns) j zero l h = absurd (omega (arith, l))
+  not_yet : (ns : List Node) (j k : ℕ) (ps left last : List Pending) (some all : List ℕ) → j < k → k ≤ length ns → AreAnswered xs source ps (take j ns) left some → AreAnswered xs source ps (take k ns) last all
+      → ((n : Node) → slice_get ns j ≡ Some n → (qs : List Pending) (here : List ℕ) → ¬ Answers xs source left n qs here) → ⊥
+  not_yet [] j k ps left last some all l few before whole wrong = omega (arith, l, few)
+  not_yet (n ∷ ns) j zero ps left last some all l few before whole wrong = omega (arith, l)
+  not_yet (n ∷ ns) zero (suc k) ps left last some all l few before (rs, here, more, answer, behind, e) wrong = wrong n refl rs here (subst (λ (us : List Pending). Answers xs source us n rs here) (sym before.0) answer)
+  not_yet (n ∷ ns) (suc j) (suc k) ps left last some all l few (us, there, others, first, before, f) (rs, here, more, answer, behind, e) wrong =
+      not_yet ns j k us left last others more (omega (arith, l)) (omega (arith, few)) before (subst (λ (qs : List Pending). AreAnswered xs source qs (take k ns) last more) (one_answer xs source n ps rs us here there answer first).0 behind) wrong
 
   no_later : (ps : List Pending) (ns : List Node) (j k : ℕ) → j < k → IsFirstWrong xs source ps ns j → IsFirstWrong xs source ps ns k → ⊥
-  no_later ps ns j k l f g = not_yet (take k ns) j ps f.left g.left f.sectors g.sectors (long_take ns j k l g.within) (subst (λ (us : List Node). AreAnswered xs source ps us f.left f.sectors) (sym (take_take ns j k l)) f.before) g.before
-      (λ n e. f.wrong n (sym (get_take ns j k l) ∙ e))
+  no_later ps ns j k l f g = not_yet ns j k ps f.left g.left f.sectors g.sectors l g.within f.before g.before f.wrong
 
   one_first_wrong : (ps : List Pending) (ns : List Node) (j k : ℕ) → IsFirstWrong xs source ps ns j → IsFirstWrong xs source ps ns k → j ≡ k
   one_first_wrong ps ns j k f g = by (below_same_or_above j k)
@@ -295,7 +271,7 @@ module _ (m : Map) (c : CertParts) (good : IsGoodMesh m (triangles_of c) (labels
       by (inr (inl e)) = (sym f.of ∙ ap (λ (x : Tree). x.source) (sym same) ∙ g.of, number)
         where
           same : g.tree ≡ f.tree
-          same = same_some g.tree f.tree (slice_get c.trees f.place) (ap (slice_get c.trees) e ∙ g.is) f.is
+          same = one_value (slice_get c.trees f.place) g.tree f.tree (ap (slice_get c.trees) e ∙ g.is) f.is
 
           -- made plain, the two tell of one list
           IsNode : ℕ → List HalfEdge → Tree → Type 0

@@ -54,10 +54,7 @@ module _ (xs : List HalfEdge) (roots : List Root) (firsts : List (Option ℕ)) (
 
 -- ---- nodes one behind the other
 
-with_none : (t : Tree) → with_nodes [] t ≡ t
-with_none t = ap (λ (ns : List Node). let u : Tree = record { source = t.source; nodes = ns } in u) (append-nil t.nodes)
-
-with_more : (t : Tree) (ns : List Node) (n : Node) → with_node n (with_nodes ns t) ≡ with_nodes (ns ++ n ∷ []) t
+pub with_more : (t : Tree) (ns : List Node) (n : Node) → with_node n (with_nodes ns t) ≡ with_nodes (ns ++ n ∷ []) t
 with_more t ns n = ap (λ (us : List Node). let u : Tree = record { source = t.source; nodes = us } in u) (append_assoc t.nodes ns (n ∷ []))
 
 module _ (xs : List HalfEdge) (roots : List Root) (firsts : List (Option ℕ)) (source : ℕ) (path : List Frame) (waits : List Wait) (f : Follow) (old : TableParts) where

@@ -17,6 +17,7 @@ use Rattle.gate_floods.specs.RowJudge.Words.{row_at, both_words, is_away}
 use Rattle.gate_floods.specs.RowJudge.Asked.{place_at, left_of, Pending, pending_way, pending_roots, ends_through, ways_behind, ways_through}
 use Rattle.gate_floods.specs.RowJudge.Path.{HasPassed, HasRoomFor, AreWaiting, IsAt, with_asked, TakesNext, EntersThrough, HasAnswered, HasRefused}
 use Rattle.gate_floods.proofs.RowJudge.Waiting.{row_same, waiting_same, waiting_more, put_room}
+use Rattle.math_base.proofs.Options.{one_value}
 
 -- ---- the row behind a half-edge
 
@@ -86,9 +87,6 @@ module _ (xs : List HalfEdge) (ms : MaskRows) (source : ℕ) (first : List ℕ) 
 
   -- ---- a node that doesn't answer
 
-  one_edge : (x y : HalfEdge) (o : Option HalfEdge) → o ≡ Some x → o ≡ Some y → x ≡ y
-  one_edge x y o e f = cc
-
   untrue : IsTrue false → ⊥
   untrue e = cc
 
@@ -104,4 +102,4 @@ module _ (xs : List HalfEdge) (ms : MaskRows) (source : ℕ) (first : List ℕ) 
           same = same_first p (present place) rest (others a) ps first_is (present_first ps place h a)
 
           found : y ≡ x
-          found = one_edge y x (slice_get xs place) (ap (λ (q : Pending). slice_get xs q.edge) (sym same) ∙ at) is
+          found = one_value (slice_get xs place) y x (ap (λ (q : Pending). slice_get xs q.edge) (sym same) ∙ at) is

@@ -1,6 +1,6 @@
 -- A walk with a row that is asked for nodes one behind the other: what it says of all of them.
 use Rattle.std.proofs.Common.{◌≡◌, ℕ, ◌+◌, ◌-◌, ◌<◌, List, [], ◌∷◌, ◌++◌, Option, length, Bool, true, false, not, IsTrue, refl, sym, ◌∙◌, ap, subst, arith}
-use Rattle.std.proofs.lemmas.List.{append-nil, append_assoc, length-append, length_push}
+use Rattle.std.proofs.lemmas.List.{append-nil, length-append, length_push}
 use Rattle.std.proofs.Math.Seq.{take-append_seam}
 use Rattle.block_evidence.specs.declared.sight_tree.Node.{Node}
 use Rattle.block_evidence.specs.declared.sight_tree.Tree.{Tree}
@@ -8,6 +8,7 @@ use Rattle.mesh_shape.specs.declared.half_edges.table.HalfEdge.{HalfEdge}
 use Rattle.cert_checker.specs.declared.tree_judge.roots.Root.{Root}
 use Rattle.cert_checker.specs.declared.tree_judge.trees.Frame.{Frame}
 use Rattle.cert_checker.specs.TreeJudge.Walked.{with_node, with_nodes}
+use Rattle.cert_checker.proofs.TreeJudge.Walking.{with_more}
 use Rattle.gate_floods.specs.RowJudge.Masks.{MaskRows}
 use Rattle.gate_floods.specs.declared.row_judge.follow.Wait.{Wait}
 use Rattle.gate_floods.specs.declared.row_judge.follow.RowFollow.{RowFollow}
@@ -18,9 +19,6 @@ use Rattle.gate_floods.proofs.RowJudge.Walking.{answered_more, node_behind, one_
 
 with_none : (t : Tree) → with_nodes [] t ≡ t
 with_none t = ap (λ (ns : List Node). let u : Tree = record { source = t.source; nodes = ns } in u) (append-nil t.nodes)
-
-with_more : (t : Tree) (ns : List Node) (n : Node) → with_node n (with_nodes ns t) ≡ with_nodes (ns ++ n ∷ []) t
-with_more t ns n = ap (λ (us : List Node). let u : Tree = record { source = t.source; nodes = us } in u) (append_assoc t.nodes ns (n ∷ []))
 
 -- ---- one node
 

@@ -17,6 +17,7 @@ use Rattle.gate_floods.specs.RowJudge.Asked.{Pending, pending_roots, ways_throug
 use Rattle.gate_floods.specs.RowJudge.Judged.{TellsTree}
 use Rattle.gate_floods.specs.RowJudge.Laws.{IsGround, TellsByRows}
 use Rattle.gate_floods.proofs.RowJudge.Trees.{keeps, kept_answers}
+use Rattle.math_base.proofs.Options.{one_value}
 
 module _ (xs : List HalfEdge) (ms : MaskRows) (source : ℕ) where
   first_same : (p q : Pending) (ps qs us : List Pending) → us ≡ p ∷ ps → us ≡ q ∷ qs → p ≡ q
@@ -24,9 +25,6 @@ module _ (xs : List HalfEdge) (ms : MaskRows) (source : ℕ) where
 
   rest_same : (p q : Pending) (ps qs us : List Pending) → us ≡ p ∷ ps → us ≡ q ∷ qs → ps ≡ qs
   rest_same p q ps qs us e f = cc
-
-  one_same : (x y : HalfEdge) (o : Option HalfEdge) → o ≡ Some x → o ≡ Some y → x ≡ y
-  one_same x y o e f = cc
 
   -- what is asked behind a node is one
   pub one_answer : (n : Node) (ps qs us : List Pending) → Answers xs ms source ps n qs → Answers xs ms source ps n us → qs ≡ us
@@ -36,7 +34,7 @@ module _ (xs : List HalfEdge) (ms : MaskRows) (source : ℕ) where
       same = first_same p q rest more ps first also
 
       found : x ≡ y
-      found = one_same x y (slice_get xs p.edge) is (ap (λ (r : Pending). slice_get xs r.edge) same ∙ this)
+      found = one_value (slice_get xs p.edge) x y is (ap (λ (r : Pending). slice_get xs r.edge) same ∙ this)
   one_answer (Blocked d) ps qs us (p, rest, x, first, is, blocks, e) (q, more, y, also, this, stuck, g) = e ∙ rest_same p q rest more ps first also ∙ sym g
 
   refuted : (ns : List Node) (k : ℕ) (ps left : List Pending) → k ≤ length ns → AreAnswered xs ms source ps (take k ns) left → AreAnswered xs ms source ps ns [] → ((n : Node) → slice_get ns k ≡ Some n → (qs : List Pending) → ¬ Answers xs ms source left n qs) → (k ≡ length ns → left ≢ []) → ⊥

@@ -1,15 +1,12 @@
-use Rattle.std.proofs.Common.{◌≡◌, Bool, true, false, refl, sym, ◌∙◌, arith}
+use Rattle.std.proofs.Common.{true, false, sym, ◌∙◌, arith}
 use Rattle.std.specs.Prelude.{not}
 use Rattle.std.proofs.lemmas.Bool.{false≢true}
+use Rattle.sight_ray.proofs.CrossedLineLemmas.{not_false}
 use Rattle.cert_checker.specs.Pairs.{known_of, IsShownBlind, IsShownSeen}
 use Rattle.cert_checker.proofs.pairs.KnownPairRules.fault_of.Goals as goal
 use Rattle.cert_checker.proofs.pairs.KnownPairRules.fault_of.Goals.{else-given-via-then-given+else-given-2, else-given-via-else-given}
 use Rattle.cert_checker.proofs.pairs.KnownPairRules.fault_of.Goals.{else-given-3-via-then-given-3+else-not-is_shown_blind, else-given-3-via-else-given-3}
 use Rattle.cert_checker.proofs.pairs.KnownPairRules.fault_of.Goals.{else-given-4-via-then-given-4+then-not-given+else-not-are_sectors_joined, else-given-4-via-then-given-4+else-not-given, else-given-4-via-else-given-4}
-
-not_false : (b : Bool) → not b ≡ false → b ≡ true
-not_false true e = refl
-not_false false e = absurd (false≢true (sym e))
 
 pub are_sectors_joined-requires-clause-groups : goal.are_sectors_joined-requires-clause-groups
 are_sectors_joined-requires-clause-groups c = λ a fs at f has. let w = c.requires.0.within a f fs at has in let e = c.requires.0.rays in omega (arith, w, e)

@@ -30,7 +30,7 @@ use Rattle.gate_floods.specs.Exact.{IsClaimed}
 use Rattle.gate_floods.specs.RowJudge.Asked.{IsFirstWrong, pending_roots}
 use Rattle.cert_checker.specs.TreeJudge.Roots.{root_edges}
 use Rattle.exact_checker.specs.Judged.{AreTreesKept, IsFirstTreeWrong, IsPairRight, IsReached, JudgesTrees, TellsPairs}
-use Rattle.any_judge.proofs.OneRow.{one_first_wrong}
+use Rattle.gate_floods.proofs.RowJudge.OneRow.{one_first_wrong}
 
 -- ---- trees
 

@@ -2,38 +2,37 @@
 use Rattle.std.proofs.Common.{◌≡◌, ℕ, zero, suc, ◌<◌, ◌≤◌, ◌/◌, ◌%◌, ◌⊎◌, inl, inr, List, [], ◌∷◌, ◌++◌, Option, Some, None, Bool, true, false, not, length, take, slice_index, refl, sym, ◌∙◌, ap, subst, arith, if◌then◌else◌}
 use Rattle.std.specs.Prelude.{◌↔◌, option_and_then}
 use Rattle.std.specs.Int.{bit_at}
+use Rattle.std.specs.Cmp.{both_ways}
 use Rattle.std.specs.List.{slice_get, filter_map, cons_option}
-use Rattle.std.proofs.lemmas.Option.{none-some, same_Some}
+use Rattle.std.proofs.lemmas.Option.{same_Some}
 use Rattle.math_base.proofs.Bools.{not_both_values}
 use Rattle.math_base.proofs.Numbers.{below_same_or_above, is_told_same, tells_same}
 use Rattle.sight_names.specs.declared.names.Side.{Side}
 use Rattle.sight_names.specs.declared.names.Triangle.{Triangle}
 use Rattle.sight_names.specs.Map.{Map, map_of}
-use Rattle.sight_names.specs.Mesh.{IsGoodMesh, label_of, side_edge, triangle_at}
+use Rattle.sight_names.specs.Mesh.{IsGoodMesh}
 use Rattle.sight_names.specs.Plan.{PlanParts}
-use Rattle.sight_names.specs.Points.{Edge, place, reverse_of}
+use Rattle.sight_names.specs.Points.{Edge}
 use Rattle.sight_names.specs.Sequence.{Portal, IsSolidLine, apex, entry_edge, names_it, root_portal, roots}
 use Rattle.sight_names.specs.Splitting.{EndPoints}
-use Rattle.sight_lift.proofs.Doors.{other_edge, named_is}
-use Rattle.math_base.proofs.Bools.{not_not}
 use Rattle.block_evidence.specs.declared.sight_tree.Node.{Node}
 use Rattle.block_evidence.specs.declared.sight_tree.Node.TheVariants.{Open, Blocked}
 use Rattle.block_evidence.specs.Stuck.{Blocks}
 use Rattle.mesh_shape.specs.declared.half_edges.table.HalfEdge.{HalfEdge}
 use Rattle.mesh_shape.specs.HalfEdges.Numbers.{edge}
-use Rattle.mesh_shape.specs.HalfEdges.Kinds.{portal_on}
 use Rattle.mesh_shape.specs.HalfEdges.HalfEdges.{portal_of, entering, IsHalfEdge, AreHalfEdges}
-use Rattle.mesh_shape.proofs.HalfEdges.Reached.{reached, not_reached, outside_is}
+use Rattle.mesh_shape.proofs.HalfEdges.Reached.{reached, outside_is}
 use Rattle.cert_checker.specs.TreeJudge.Path.{edge_ends}
 use Rattle.cert_checker.specs.TreeJudge.Roots.{root_edge, root_edges, way_out_of}
-use Rattle.gate_floods.specs.Gates.{IsGate, IsInMask}
-use Rattle.gate_floods.proofs.Flooding.{door_of_gate}
+use Rattle.cert_checker.proofs.TreeJudge.OneTree.{one_plain, one_way as ways_agree, plain}
+use Rattle.gate_floods.specs.Gates.{IsInMask}
+use Rattle.gate_floods.proofs.Flooding.{one_gate}
 use Rattle.gate_floods.specs.RowJudge.Masks.{MaskRows}
 use Rattle.gate_floods.specs.RowJudge.Words.{both_words, has_bit, is_away, is_in}
 use Rattle.gate_floods.specs.RowJudge.Asked.{Pending, Answers, AreAnswered, IsFirstWrong, ends_through, leaves, left_of, mask_at, pending_roots, pending_way, row_through, way_asked, ways_through, with_rest}
 use Rattle.gate_floods.specs.RowJudge.Laws.{AreMasks, IsMaskOf}
 use Rattle.gate_floods.proofs.RowJudge.Bits.{bit_found, found_bit, in_both, in_each}
-use Rattle.exact_checker.proofs.Owned.{same_values}
+use Rattle.gate_floods.proofs.RowJudge.Telling.{one_answer}
 
 -- ---- rows of the same bits
 
@@ -56,14 +55,14 @@ has_to : (r s : List ℕ) → HaveSameBits r s → has_bit r ≡ true → has_bi
 has_to r s h e = let f = found_bit r e in bit_found s f.0 ((h f.0).0 f.1)
 
 has_same : (r s : List ℕ) → HaveSameBits r s → has_bit r ≡ has_bit s
-has_same r s h = same_values (has_bit r) (has_bit s) (has_to r s h) (has_to s r (turned r s h))
+has_same r s h = both_ways (has_bit r) (has_bit s) (has_to r s h) (has_to s r (turned r s h))
 
 in_to : (r s : List ℕ) (c : ℕ) → HaveSameBits r s → is_in r c ≡ true → is_in s c ≡ true
 in_to r s c h e = tells_same (bit_of s c) 1 ((h c).0 (is_told_same (bit_of r c) 1 e))
 
 away_same : (r s : List ℕ) (o : Option ℕ) → HaveSameBits r s → is_away r o ≡ is_away s o
 away_same r s None h = refl
-away_same r s (Some c) h = ap (λ (b : Bool). not b) (same_values (is_in r c) (is_in s c) (in_to r s c h) (in_to s r c (turned r s h)))
+away_same r s (Some c) h = ap (λ (b : Bool). not b) (both_ways (is_in r c) (is_in s c) (in_to r s c h) (in_to s r c (turned r s h)))
 
 -- both are no gate's, or both are of the same bits
 abbrev AreSameMasks : Option (List ℕ) → Option (List ℕ) → Type 0
@@ -87,31 +86,12 @@ leaves_same r s (Some a) (Some b) h m = has_same (both_words r a) (both_words s 
 -- ---- masks
 
 module _ (m : Map) (ts : List Triangle) (ls : List (Option ℕ)) (good : IsGoodMesh m ts ls) (Claims : ℕ → ℕ → Type 0) where
-  -- a portal is a gate between two sectors at most
-  one_gate : (b d e f : ℕ) (p : Portal) → IsGate m b d p → IsGate m e f p → (b ≡ e) × (d ≡ f)
-  one_gate b d e f p g h = (one b e (near b d p g) (near e f p h), one d f (far b d p g) (far e f p h))
-    where
-      near : (b d : ℕ) (p : Portal) → IsGate m b d p → (k : ℕ) × (triangle_at ts (reverse_of (entry_edge p)) ≡ Some k) × (label_of ls k ≡ Some b)
-      near b d p g =
-          let h = door_of_gate m b d p g in
-          let f = good.fits.sides (record { line = h.number; left = h.left }) h.line b h.is (named_is m h.number h.line h.left b h.is h.from) in
-          (f.0, ap (λ (e : Edge). triangle_at ts (reverse_of e)) h.edge ∙ ap (triangle_at ts) (other_edge m h.line (not h.left) ∙ ap (side_edge m h.line) (not_not h.left)) ∙ f.1, f.2)
-
-      far : (b d : ℕ) (p : Portal) → IsGate m b d p → (k : ℕ) × (triangle_at ts (entry_edge p) ≡ Some k) × (label_of ls k ≡ Some d)
-      far b d p g =
-          let h = door_of_gate m b d p g in
-          let f = good.fits.sides (record { line = h.number; left = not h.left }) h.line d h.is (named_is m h.number h.line (not h.left) d h.is h.to) in
-          (f.0, ap (triangle_at ts) h.edge ∙ f.1, f.2)
-
-      one : {o : Option ℕ} (a c : ℕ) → (k : ℕ) × (o ≡ Some k) × (label_of ls k ≡ Some a) → (k : ℕ) × (o ≡ Some k) × (label_of ls k ≡ Some c) → a ≡ c
-      one a c x y = same_Some a c (sym x.2 ∙ ap (label_of ls) (same_Some x.0 y.0 (sym x.1 ∙ y.1)) ∙ y.2)
-
   mask_same : (a b : Option (List ℕ)) (p : Portal) → IsMaskOf m Claims p a → IsMaskOf m Claims p b → AreSameMasks a b
   mask_same None None p h k = tt
   mask_same None (Some b) p h k = h k.0 k.1 k.2
   mask_same (Some a) None p h k = k h.0 h.1 h.2
   mask_same (Some a) (Some b) p h k =
-      let o = one_gate h.0 h.1 k.0 k.1 p h.2 k.2 in
+      let o = one_gate m ts ls good h.0 h.1 k.0 k.1 p h.2 k.2 in
       λ c. (
         (λ e. (k.3 c).1 (moved c h.0 k.0 h.1 k.1 o.0 o.1 ((h.3 c).0 e))),
         (λ e. (h.3 c).1 (moved c k.0 h.0 k.1 h.1 (sym o.0) (sym o.1) ((k.3 c).0 e))),
@@ -123,81 +103,34 @@ module _ (m : Map) (ts : List Triangle) (ls : List (Option ℕ)) (good : IsGoodM
   -- ---- half-edges of two plans of the map
 
   module _ (p q : PlanParts) (of_p : map_of p ≡ m) (of_q : map_of q ≡ m) (xs ys : List HalfEdge) (f : AreHalfEdges p ts ls xs) (g : AreHalfEdges q ts ls ys) (ms ns : MaskRows) (masks : AreMasks m Claims xs ms) (masks_too : AreMasks m Claims ys ns) (source : ℕ) where
-    maps : map_of p ≡ map_of q
-    maps = of_p ∙ sym of_q
-
     one_way : (d : Edge) → entering ts xs d ≡ entering ts ys d
-    one_way d = at (entering ts xs d) (entering ts ys d) refl refl
-      where
-        to : IsSolidLine (map_of p) (portal_on d) → IsSolidLine (map_of q) (portal_on d)
-        to s = subst (λ (n : Map). IsSolidLine n (portal_on d)) maps s
-
-        back : IsSolidLine (map_of q) (portal_on d) → IsSolidLine (map_of p) (portal_on d)
-        back s = subst (λ (n : Map). IsSolidLine n (portal_on d)) (sym maps) s
-
-        closed_one : (i : ℕ) → entering ts xs d ≡ Some i → (triangle_at ts d ≡ None) ⊎ IsSolidLine (map_of q) (portal_on d) → ⊥
-        closed_one i h (inl n) = (let r = reached p ts ls xs f d i h in none-some r.x.triangle (sym n ∙ r.is.triangle))
-        closed_one i h (inr s) = (let r = reached p ts ls xs f d i h in r.no_wall (subst (IsSolidLine (map_of p)) (sym r.is.portal) (back s)))
-
-        closed_other : (i : ℕ) → entering ts ys d ≡ Some i → (triangle_at ts d ≡ None) ⊎ IsSolidLine (map_of p) (portal_on d) → ⊥
-        closed_other i h (inl n) = (let r = reached q ts ls ys g d i h in none-some r.x.triangle (sym n ∙ r.is.triangle))
-        closed_other i h (inr s) = (let r = reached q ts ls ys g d i h in r.no_wall (subst (IsSolidLine (map_of q)) (sym r.is.portal) (to s)))
-
-        at : (a b : Option ℕ) → entering ts xs d ≡ a → entering ts ys d ≡ b → entering ts xs d ≡ entering ts ys d
-        at None None h k = h ∙ sym k
-        at (Some i) (Some j) h k = h ∙ (let r = reached p ts ls xs f d i h in let s = reached q ts ls ys g d j k in sym r.number ∙ s.number) ∙ sym k
-        at (Some i) None h k = absurd (closed_one i h (not_reached q ts ls ys g d k))
-        at None (Some j) h k = absurd (closed_other j k (not_reached p ts ls xs f d h))
+    one_way = ways_agree m ts ls good p q of_p of_q xs ys f g
 
     -- what a walk reads of the half-edge that one enters by is the same of both
     record AreAlike (i : ℕ) (x y : HalfEdge) : Type 0 where
-      ends : edge_ends x ≡ edge_ends y
-      sector : x.sector ≡ y.sector
+      same : plain x ≡ plain y
       left : Edge
       left_way : x.left_way ≡ entering ts xs left
-      left_way_too : y.left_way ≡ entering ts ys left
       right : Edge
       right_way : x.right_way ≡ entering ts xs right
-      right_way_too : y.right_way ≡ entering ts ys right
       mask : AreSameMasks (mask_at ms i) (mask_at ns i)
 
     alike_here : (d : Edge) (i : ℕ) (x y : HalfEdge) → slice_get xs i ≡ Some x → slice_get ys i ≡ Some y → IsHalfEdge p ts ls xs d x → IsHalfEdge q ts ls ys d y → ¬ IsSolidLine (map_of p) (portal_of x) → ¬ IsSolidLine (map_of q) (portal_of y) → AreAlike i x y
     alike_here d i x y here there u v open_ open_too = record {
-      ends = λ j. record { left = at_left j; right = at_right j };
-      sector = sym u.label ∙ ap (label_of ls) triangle ∙ v.label;
+      same = one_plain m ts ls good p q of_p of_q d x y xs ys u v one_way;
       left = edge x.left x.apex;
       left_way = u.left_way;
-      left_way_too = v.left_way ∙ sym (λ j. entering ts ys (edge (left j) (third j)));
       right = edge x.apex x.right;
       right_way = u.right_way;
-      right_way_too = v.right_way ∙ sym (λ j. entering ts ys (edge (third j) (right j)));
       mask = mask_same (mask_at ms i) (mask_at ns i) (portal_of x) (masks i x here (subst (λ (n : Map). ¬ IsSolidLine n (portal_of x)) of_p open_))
-          (subst (λ (r : Portal). IsMaskOf m Claims r (mask_at ns i)) (sym portals) (masks_too i y there (subst (λ (n : Map). ¬ IsSolidLine n (portal_of y)) of_q open_too)));
+          (subst (λ (r : Portal). IsMaskOf m Claims r (mask_at ns i)) (v.portal ∙ sym u.portal) (masks_too i y there (subst (λ (n : Map). ¬ IsSolidLine n (portal_of y)) of_q open_too)));
     }
-      where
-        portals : portal_of x ≡ portal_of y
-        portals = u.portal ∙ sym v.portal
 
-        left : x.left ≡ y.left
-        left = ap (λ (r : Portal). r.left) portals
+    sector_same : {i : ℕ} {x y : HalfEdge} → AreAlike i x y → x.sector ≡ y.sector
+    sector_same a = ap (λ (z : HalfEdge). z.sector) a.same
 
-        right : x.right ≡ y.right
-        right = ap (λ (r : Portal). r.right) portals
-
-        third : x.apex ≡ y.apex
-        third = same_Some x.apex y.apex (sym u.third ∙ ap (apex ts) portals ∙ v.third)
-
-        triangle : x.triangle ≡ y.triangle
-        triangle = same_Some x.triangle y.triangle (sym u.triangle ∙ v.triangle)
-
-        place_of : (a b : ℕ) → a ≡ b → place (map_of p) a ≡ place (map_of q) b
-        place_of a b h = λ j. place (maps j) (h j)
-
-        at_left : x.left_at ≡ y.left_at
-        at_left = u.left_at ∙ place_of x.left y.left left ∙ sym v.left_at
-
-        at_right : x.right_at ≡ y.right_at
-        at_right = u.right_at ∙ place_of x.right y.right right ∙ sym v.right_at
+    ends_same : {i : ℕ} {x y : HalfEdge} → AreAlike i x y → edge_ends x ≡ edge_ends y
+    ends_same a = ap edge_ends a.same
 
     alike : (d : Edge) (i : ℕ) (x y : HalfEdge) → entering ts xs d ≡ Some i → slice_get xs i ≡ Some x → slice_get ys i ≡ Some y → AreAlike i x y
     alike d i x y e here there =
@@ -270,7 +203,7 @@ module _ (m : Map) (ts : List Triangle) (ls : List (Option ℕ)) (good : IsGoodM
               let there : pending_way path s (way_asked ys ns source s (Some i)) ≡ there_way i (names_it y.0.sector source) = ap (λ (o : Option ℕ). pending_way path s (option_and_then (with_rest ns s) o)) (outside_is ys source i y.0 y.1) in
               subst (λ (w : List Pending). AreSame w (pending_way path s (way_asked ys ns source s (Some i)))) (sym here)
               (subst (λ (w : List Pending). AreSame (here_way i (names_it x.0.sector source)) w) (sym there)
-              (by_sector d i e x.0 y.0 a (names_it x.0.sector source) (names_it y.0.sector source) (ap (λ (o : Option ℕ). names_it o source) a.sector)))
+              (by_sector d i e x.0 y.0 a (names_it x.0.sector source) (names_it y.0.sector source) (ap (λ (o : Option ℕ). names_it o source) (sector_same a))))
 
     module _ (r s : List ℕ) (same : HaveSameBits r s) where
       one_root : (o : Option Portal) → AreSame (pending_way [] r (option_and_then (with_rest ms r) (option_and_then (λ (w : Portal). way_out_of ts xs source (entry_edge w)) o)))
@@ -303,12 +236,12 @@ module _ (m : Map) (ts : List Triangle) (ls : List (Option ℕ)) (good : IsGoodM
 
     ways_same : (a : Pending) (s : List ℕ) → HaveSameBits a.row s → (x y : HalfEdge) → AreAlike a.edge x y → AreSame (ways_through xs ms source a x) (ways_through ys ns source (with_row a s) y)
     ways_same a s same x y w =
-        subst (λ (o : Option ℕ). AreSame (ways_through xs ms source a x) (pending_way (ends_through (with_row a s) y) after_too (way_asked ys ns source after_too o) ++ pending_way (ends_through (with_row a s) y) after_too (way_asked ys ns source after_too y.right_way))) (sym w.left_way_too)
-        (subst (λ (o : Option ℕ). AreSame (ways_through xs ms source a x) (pending_way (ends_through (with_row a s) y) after_too (way_asked ys ns source after_too (entering ts ys w.left)) ++ pending_way (ends_through (with_row a s) y) after_too (way_asked ys ns source after_too o))) (sym w.right_way_too)
+        subst (λ (o : Option ℕ). AreSame (ways_through xs ms source a x) (pending_way (ends_through (with_row a s) y) after_too (way_asked ys ns source after_too o) ++ pending_way (ends_through (with_row a s) y) after_too (way_asked ys ns source after_too y.right_way))) (sym (sym (ap (λ (z : HalfEdge). z.left_way) w.same) ∙ w.left_way ∙ one_way w.left))
+        (subst (λ (o : Option ℕ). AreSame (ways_through xs ms source a x) (pending_way (ends_through (with_row a s) y) after_too (way_asked ys ns source after_too (entering ts ys w.left)) ++ pending_way (ends_through (with_row a s) y) after_too (way_asked ys ns source after_too o))) (sym (sym (ap (λ (z : HalfEdge). z.right_way) w.same) ∙ w.right_way ∙ one_way w.right))
         (subst (λ (o : Option ℕ). AreSame (pending_way ends after (way_asked xs ms source after o) ++ pending_way ends after (way_asked xs ms source after x.right_way)) there) (sym w.left_way)
         (subst (λ (o : Option ℕ). AreSame (pending_way ends after (way_asked xs ms source after (entering ts xs w.left)) ++ pending_way ends after (way_asked xs ms source after o)) there) (sym w.right_way)
         (subst (λ (z : List EndPoints). AreSame (pending_way ends after (way_asked xs ms source after (entering ts xs w.left)) ++ pending_way ends after (way_asked xs ms source after (entering ts xs w.right)))
-        (pending_way z after_too (way_asked ys ns source after_too (entering ts ys w.left)) ++ pending_way z after_too (way_asked ys ns source after_too (entering ts ys w.right)))) (ap (λ (e : EndPoints). a.path ++ e ∷ []) w.ends)
+        (pending_way z after_too (way_asked ys ns source after_too (entering ts ys w.left)) ++ pending_way z after_too (way_asked ys ns source after_too (entering ts ys w.right)))) (ap (λ (e : EndPoints). a.path ++ e ∷ []) (ends_same w))
         (joined _ _ _ _ (way_same ends after after_too rows w.left) (way_same ends after after_too rows w.right))))))
       where
         ends : List EndPoints
@@ -341,7 +274,7 @@ module _ (m : Map) (ts : List Triangle) (ls : List (Option ℕ)) (good : IsGoodM
         let w = alike one.entry a.edge x.0 y one.entered x.1 yb in
         let away_too : is_away (row_through ns (with_row a one.other)) y.sector ≡ true = subst (λ (z : Pending). is_away (row_through ns z) y.sector ≡ true) cb away in
         let rows : HaveSameBits (row_through ms a) (row_through ns (with_row a one.other)) = left_same a.row one.other (mask_at ms a.edge) (mask_at ns a.edge) one.row w.mask in
-        let here : is_away (row_through ms a) x.0.sector ≡ true = away_same (row_through ms a) (row_through ns (with_row a one.other)) x.0.sector rows ∙ ap (is_away (row_through ns (with_row a one.other))) w.sector ∙ away_too in
+        let here : is_away (row_through ms a) x.0.sector ≡ true = away_same (row_through ms a) (row_through ns (with_row a one.other)) x.0.sector rows ∙ ap (is_away (row_through ns (with_row a one.other))) (sector_same w) ∙ away_too in
         let behind : ds ≡ ways_through ys ns source (with_row a one.other) y ++ rb = ed ∙ ap (λ (z : Pending). ways_through ys ns source z y ++ rc) cb ∙ ap (λ (us : List Pending). ways_through ys ns source (with_row a one.other) y ++ us) (sym (same_rest b c rb rc (b ∷ rb) refl ec)) in
         (ways_through xs ms source a x.0 ++ ra, (a, ra, x.0, refl, x.1, here, refl), subst (AreSame (ways_through xs ms source a x.0 ++ ra)) (sym behind) (joined _ _ _ _ (ways_same a one.other one.row x.0 y w) more))
     step_on (Blocked e) a b ra rb ds one more (c, rc, y, ec, yc, blocks, ed) =
@@ -350,7 +283,7 @@ module _ (m : Map) (ts : List Triangle) (ls : List (Option ℕ)) (good : IsGoodM
         let yb : slice_get ys a.edge ≡ Some y = subst (λ (z : Pending). slice_get ys z.edge ≡ Some y) cb yc in
         let w = alike one.entry a.edge x.0 y one.entered x.1 yb in
         let there : Blocks (ends_through (with_row a one.other) y) e = subst (λ (z : Pending). Blocks (ends_through z y) e) cb blocks in
-        let here : Blocks (ends_through a x.0) e = subst (λ (z : EndPoints). Blocks (a.path ++ z ∷ []) e) (sym w.ends) there in
+        let here : Blocks (ends_through a x.0) e = subst (λ (z : EndPoints). Blocks (a.path ++ z ∷ []) e) (sym (ends_same w)) there in
         (ra, (a, ra, x.0, refl, x.1, here, refl), subst (AreSame ra) (sym (ed ∙ sym (same_rest b c rb rc (b ∷ rb) refl ec))) more)
 
     -- a node that answers for the one list answers for the other, and the same is to be asked behind it
@@ -363,19 +296,12 @@ module _ (m : Map) (ts : List Triangle) (ls : List (Option ℕ)) (good : IsGoodM
     moves n [] (b ∷ bs) ds h t = absurd h
     moves n (a ∷ fs) (b ∷ bs) ds h t = step_on n a b fs bs ds h.0 h.1 t
 
-    one_answer : (n : Node) (fs cs us : List Pending) → Here fs n cs → Here fs n us → cs ≡ us
-    one_answer Open fs cs us (a, ra, x, ea, xa, away, ec) (b, rb, y, eb, yb, off, eu) =
-        let same : a ≡ b = same_first a b ra rb fs ea eb in
-        let found : x ≡ y = same_Some x y (sym xa ∙ ap (λ (z : Pending). slice_get xs z.edge) same ∙ yb) in
-        ec ∙ (λ i. ways_through xs ms source (same i) (found i) ++ same_rest a b ra rb fs ea eb i) ∙ sym eu
-    one_answer (Blocked e) fs cs us (a, ra, x, ea, xa, blocks, ec) (b, rb, y, eb, yb, stuck, eu) = ec ∙ same_rest a b ra rb fs ea eb ∙ sym eu
-
     -- the same is to be asked behind nodes that answer for both
     all_on : (nodes : List Node) (fs bs cs ds : List Pending) → AreSame fs bs → AreAnswered xs ms source fs nodes cs → AreAnswered ys ns source bs nodes ds → AreSame cs ds
     all_on [] fs bs cs ds h here there = subst (λ (us : List Pending). AreSame us ds) (sym here) (subst (AreSame fs) (sym there) h)
     all_on (n ∷ nodes) fs bs cs ds h (us, one, more) (vs, other, rest) =
         let s = moves n fs bs vs h other in
-        all_on nodes us vs cs ds (subst (λ (ws : List Pending). AreSame ws vs) (one_answer n fs s.0 us s.1 one) s.2) more rest
+        all_on nodes us vs cs ds (subst (λ (ws : List Pending). AreSame ws vs) (one_answer xs ms source n fs s.0 us s.1 one) s.2) more rest
 
     -- a node below k of those that answer
     record IsPassed (nodes : List Node) (j : ℕ) (bs : List Pending) : Type 0 where
