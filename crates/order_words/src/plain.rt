@@ -34,16 +34,78 @@ pub fn source(alloc: Global, large: bool, wad: &str) -> Result<Source, AllocErro
     })
 }
 
+/// .. and a file.
+pub fn wad_and_file(
+    alloc: Global,
+    large: bool,
+    wad: &str,
+    file: &str,
+) -> Result<(Source, Text), AllocError>
+    ensures wad { IfOk result (λ m. m.0 ≡ source_of large wad.now) }
+    ensures file { IfOk result (λ m. m.1 ≡ file.now) }
+{
+    let wad = source(alloc, large, wad)?;
+    match text(alloc, file) {
+        Ok(file) => Ok((wad, file)),
+        Err(full) => Err(full),
+    }
+}
+
+/// What an order names: a WAD, a map of it in upper case, and a file.
+#[derive(Drop)]
+pub struct Subject {
+    pub wad: Source,
+    pub map: Text,
+    pub file: Text,
+}
+
+/// The WAD of that name, and that map of it.
+pub fn map_in(
+    alloc: Global,
+    large: bool,
+    wad: &str,
+    name: &str,
+) -> Result<(Source, Text), AllocError>
+    ensures wad { IfOk result (λ m. m.0 ≡ source_of large wad.now) }
+    ensures map { IfOk result (λ m. m.1 ≡ upper name.now) }
+{
+    let wad = source(alloc, large, wad)?;
+    match upper_text(alloc, name) {
+        Ok(map) => Ok((wad, map)),
+        Err(full) => Err(full),
+    }
+}
+
+/// .. and a file. What an order names is made in one call, since each call that may fail is a way out of its function.
+pub fn named(
+    alloc: Global,
+    large: bool,
+    wad: &str,
+    name: &str,
+    file: &str,
+) -> Result<Subject, AllocError>
+    ensures wad { IfOk result (λ n. n.wad ≡ source_of large wad.now) }
+    ensures map { IfOk result (λ n. n.map ≡ upper name.now) }
+    ensures file { IfOk result (λ n. n.file ≡ file.now) }
+{
+    let (wad, map) = map_in(alloc, large, wad, name)?;
+    match text(alloc, file) {
+        Ok(file) => Ok(Subject { wad, map, file }),
+        Err(full) => Err(full),
+    }
+}
+
 /// A table with every bit clear, of a map into a file.
 pub fn zero(alloc: Global, large: bool, rest: &[&str]) -> Result<Order, OrderFault>
     ensures { Makes (zero_of large (map (λ s. s.now) rest.now)) result }
 {
     match rest {
         [wad, name, out] if may_name_file(wad) && may_name_map(name) && may_name_file(out) => {
+            let named = named(alloc, large, wad, name, out)?;
             Ok(Order::Zero {
-                wad: source(alloc, large, wad)?,
-                map: upper_text(alloc, name)?,
-                out: text(alloc, out)?,
+                wad: named.wad,
+                map: named.map,
+                out: named.file,
             })
         }
         _ => Err(OrderFault::Usage),
@@ -60,11 +122,10 @@ fn sight_named(
     ensures { Makes (ray_named large wad.now name.now word.now) result }
 {
     match ray(word) {
-        Some(ray) => Ok(Order::Ray {
-            wad: source(alloc, large, wad)?,
-            map: upper_text(alloc, name)?,
-            ray,
-        }),
+        Some(ray) => {
+            let (wad, map) = map_in(alloc, large, wad, name)?;
+            Ok(Order::Ray { wad, map, ray })
+        }
         None => Err(OrderFault::Usage),
     }
 }
@@ -91,11 +152,10 @@ fn trace_named(
     ensures { Makes (trace_named large wad.now name.now word.now) result }
 {
     match ray(word) {
-        Some(ray) => Ok(Order::Trace {
-            wad: source(alloc, large, wad)?,
-            map: upper_text(alloc, name)?,
-            ray,
-        }),
+        Some(ray) => {
+            let (wad, map) = map_in(alloc, large, wad, name)?;
+            Ok(Order::Trace { wad, map, ray })
+        }
         None => Err(OrderFault::Usage),
     }
 }
@@ -123,10 +183,11 @@ pub fn check(
 {
     match rest {
         [wad, name, cert] if may_name_file(wad) && may_name_map(name) && may_name_file(cert) => {
+            let named = named(alloc, large, wad, name, cert)?;
             Ok(Order::Check {
-                wad: source(alloc, large, wad)?,
-                map: upper_text(alloc, name)?,
-                cert: text(alloc, cert)?,
+                wad: named.wad,
+                map: named.map,
+                cert: named.file,
                 spelling,
             })
         }
@@ -139,10 +200,10 @@ pub fn need(alloc: Global, large: bool, rest: &[&str]) -> Result<Order, OrderFau
     ensures { Makes (need_of large (map (λ s. s.now) rest.now)) result }
 {
     match rest {
-        [wad, name] if may_name_file(wad) && may_name_map(name) => Ok(Order::Need {
-            wad: source(alloc, large, wad)?,
-            map: upper_text(alloc, name)?,
-        }),
+        [wad, name] if may_name_file(wad) && may_name_map(name) => {
+            let (wad, map) = map_in(alloc, large, wad, name)?;
+            Ok(Order::Need { wad, map })
+        }
         _ => Err(OrderFault::Usage),
     }
 }
@@ -158,11 +219,14 @@ fn sound_named(
     ensures { Makes (sound_named large wad.now name.now first.now second.now) result }
 {
     match pair(first, second) {
-        Some(pair) => Ok(Order::Sound {
-            wad: source(alloc, large, wad)?,
-            map: upper_text(alloc, name)?,
-            pair: Some(pair),
-        }),
+        Some(pair) => {
+            let (wad, map) = map_in(alloc, large, wad, name)?;
+            Ok(Order::Sound {
+                wad,
+                map,
+                pair: Some(pair),
+            })
+        }
         None => Err(OrderFault::Usage),
     }
 }
@@ -178,11 +242,14 @@ fn sound_with(
     ensures { Makes (sound_with large wad.now name.now (map (λ s. s.now) sectors.now)) result }
 {
     match sectors {
-        [] => Ok(Order::Sound {
-            wad: source(alloc, large, wad)?,
-            map: upper_text(alloc, name)?,
-            pair: None,
-        }),
+        [] => {
+            let (wad, map) = map_in(alloc, large, wad, name)?;
+            Ok(Order::Sound {
+                wad,
+                map,
+                pair: None,
+            })
+        }
         [first, second] => sound_named(alloc, large, wad, name, first, second),
         _ => Err(OrderFault::Usage),
     }

@@ -1,5 +1,7 @@
 -- Which names are begun after a change of the list.
-use Rattle.std.proofs.Common.{◌≡◌, ◌⊎◌, ℕ, zero, suc, inl, inr, Bool, true, false, cond, List, [], ◌∷◌, ◌++◌, map, remove, refl, sym, subst}
+use Rattle.std.proofs.Common.{◌≡◌, ◌⊎◌, ◌+◌, ◌<◌, ◌≤◌, ℕ, zero, suc, inl, inr, Bool, true, false, cond, List, [], ◌∷◌, ◌++◌, map, remove, take, drop, get_or, length, refl, sym, subst, ap, ◌∙◌}
+use Rattle.std.proofs.Math.ListN.{drop_of_length-le}
+use Rattle.std.proofs.lemmas.List.{drop_more, take_at}
 use Rattle.std.proofs.lemmas.Slice.Eq.{bytes_eq-Decides}
 use Rattle.std.specs.List.{items_where_true}
 use Rattle.std.specs.Str.{bytes_eq}
@@ -73,3 +75,15 @@ module _ {X : Type 0} (name_of : X → List ℕ) where
 
   pub none_named : (xs : List X) (q : List ℕ) → is_named name_of xs q ≡ false → NoneBegun (map name_of xs) (q ∷ [])
   none_named xs q e = record { none = none_is xs q e }
+
+  -- whether a name is among those from a place on, by the first of them
+  pub named_from : (xs : List X) (q : List ℕ) (i : ℕ) (x : X) (b : Bool) → i < length xs → x ≡ get_or xs i x → bytes_eq (name_of x) q ≡ b → is_named name_of (drop i xs) q ≡ cond b true (is_named name_of (drop (i + 1) xs) q)
+  named_from xs q i x b h e t = rw (drop_more xs i x h, ← e, t) refl
+
+  pub named_past : (xs : List X) (q : List ℕ) (i : ℕ) → length xs ≤ i → is_named name_of (drop i xs) q ≡ false
+  named_past xs q i h = rw (drop_of_length-le xs h) refl
+
+  -- the names of a list of which all is lent, and comes back with the same names
+  pub names_back : (old lent new : List X) (n : ℕ) → lent ≡ old → length lent ≡ n → length new ≡ length lent → map name_of new ≡ map name_of lent → map name_of (take n (new ++ drop (length new) old)) ≡ map name_of old
+  names_back old lent new n v f e h =
+      ap (λ (xs : List X). map name_of xs) (take_at new (drop (length new) old) n (e ∙ f)) ∙ h ∙ ap (λ (xs : List X). map name_of xs) v

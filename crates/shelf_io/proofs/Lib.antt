@@ -2,3 +2,4 @@ pub mod FilesLemmas
 pub mod FetchLemmas
 pub mod FakesLemmas
 pub mod BegunLemmas
+pub mod CountLemmas

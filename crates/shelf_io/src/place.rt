@@ -70,14 +70,23 @@ pub fn names_one_file<R: Files + AllocGlobal>(rt: &R, one: &str, other: &str) ->
     if one == other {
         return Ok(true);
     }
-    match (
-        if_there(fs::metadata(rt, one))?,
-        if_there(fs::metadata(rt, other))?,
-    ) {
+    match both_there(rt, one, other)? {
         (Some(one), Some(other)) => Ok(is_same(&one, &other)),
         (None, None) => names_one_place(rt, one, other),
         _ => Ok(false),
     }
+}
+
+// What stands under each of two names.
+fn both_there<R: Files>(
+    rt: &R,
+    one: &str,
+    other: &str,
+) -> io::Result<(Option<Metadata>, Option<Metadata>)> {
+    Ok((
+        if_there(fs::metadata(rt, one))?,
+        if_there(fs::metadata(rt, other))?,
+    ))
 }
 
 // Whether the names behind the links have one folder and one last part.
@@ -85,13 +94,16 @@ fn names_one_place<R: Files + AllocGlobal>(rt: &R, one: &str, other: &str) -> io
     let (Some(one), Some(other)) = (behind_links(rt, one)?, behind_links(rt, other)?) else {
         return Ok(false);
     };
-    if last_of(&one) != last_of(&other) {
+    is_one_place(rt, &one, &other)
+}
+
+// The same of names behind all links.
+// by itself, over what it is lent, since each way out of a function has all that it owns to drop
+fn is_one_place<R: Files>(rt: &R, one: &str, other: &str) -> io::Result<bool> {
+    if last_of(one) != last_of(other) {
         return Ok(false);
     }
-    match (
-        if_there(fs::metadata(rt, folder_of(&one)))?,
-        if_there(fs::metadata(rt, folder_of(&other)))?,
-    ) {
+    match both_there(rt, folder_of(one), folder_of(other))? {
         (Some(one), Some(other)) => Ok(is_same(&one, &other)),
         _ => Ok(false),
     }
