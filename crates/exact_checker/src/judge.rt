@@ -30,14 +30,15 @@ use sight_names::{CheckFault, MOST_TRIANGLES, Memory, Plan};
 use std::alloc::Global;
 
 /// Judges the pairs of sectors, by what is known.
-fn judge_each_pair(known: Known<'_>) -> Verdict
+fn judge_each_pair(alloc: Global, known: Known<'_>) -> Result<Verdict, Memory>
     requires { length known.members.now ≡ known.table.now.n }
-    ensures kind { IsPairVerdict result }
-    ensures pairs { (c : PartsOf) → IsAbout c (known_of known.entry) → TellsPairs known.entry.table.now (as_two c) result }
+    ensures kind { IfOk result IsPairVerdict }
+    ensures pairs { (c : PartsOf) → IsAbout c (known_of known.entry) → IfOk result (TellsPairs known.entry.table.now (as_two c)) }
 {
-    match judge_pairs(&known, known.table, &[]) {
-        Ok(totals) => Verdict::Yes(totals),
-        Err(fault) => Verdict::No(fault),
+    let judged = judge_pairs(alloc, &known, known.table, &[])?;
+    match judged {
+        Ok(totals) => Ok(Verdict::Yes(totals)),
+        Err(fault) => Ok(Verdict::No(fault)),
     }
 }
 
@@ -59,7 +60,7 @@ pub fn judge_sectors(
         members: members.as_slice(),
         joined,
     };
-    Ok(judge_each_pair(known))
+    judge_each_pair(alloc, known)
 }
 
 /// Judges rays and trees over the map of groups, and then the pairs of sectors.
