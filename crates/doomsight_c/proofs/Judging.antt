@@ -1,6 +1,5 @@
 -- What the judge promises of a verdict, clause by clause, is one promise; and what it says of the table and the certificate.
-use Rattle.std.proofs.Common.{◌≡◌, ◌↔◌, ◌∙◌, ℕ, List, Result, Ok, Err, length, refl, sym, ap, subst}
-use Rattle.std.specs.Prelude.{IfOk}
+use Rattle.std.proofs.Common.{◌≡◌, ◌∙◌, ℕ, List, Result, Ok, Err, length, refl, sym, ap, subst}
 use Rattle.sight_names.specs.declared.faults.CertFault.{CertFault}
 use Rattle.sight_names.specs.declared.faults.CertFault.TheVariants as cert_fault
 use Rattle.sight_names.specs.declared.faults.TableFault.TheVariants as table_fault
@@ -16,9 +15,7 @@ use Rattle.certificates.specs.Reading.{certificate_at}
 use Rattle.group_checker.specs.declared.verdict.AnyFault.TheVariants as fault
 use Rattle.group_checker.specs.declared.verdict.AnyVerdict.{AnyVerdict}
 use Rattle.group_checker.specs.declared.verdict.AnyVerdict.TheVariants as verdict
-use Rattle.group_checker.specs.Judged.{IsYesAny}
-use Rattle.any_judge.specs.Accepted.{IsAccepted, TellsSight}
-use Rattle.any_judge.specs.Judged.{Judges}
+use Rattle.any_judge.specs.CertFile.Judgement.{IsJudged, IsJudgement}
 use Rattle.cert_judge.specs.declared.judged.Judged.{Judged}
 use Rattle.cert_judge.specs.declared.judged.Judged.TheVariants as judged
 use Rattle.cert_judge.specs.Judged.{JudgedBy}
@@ -29,26 +26,10 @@ use Rattle.map_answers.specs.declared.sight_status.status.Status.{Status}
 use Rattle.map_answers.specs.declared.sight_status.status.Status.TheVariants as status
 use Rattle.doomsight_c.specs.declared.counts.DoomsightCounts.{DoomsightCounts}
 use Rattle.doomsight_c.specs.declared.fault.DoomsightFault.{DoomsightFault}
-use Rattle.doomsight_c.specs.Checked.{ChecksMap, Denies, IsJudged, IsJudgement, IsTableOf, IsUnproved, IsUnread, IsVerdictOn, IsYes, VerdictOf, totals_view}
+use Rattle.doomsight_c.specs.Checked.{ChecksMap, Denies, IsTableOf, IsUnproved, IsUnread, IsVerdictOn, IsYes, VerdictOf, totals_view}
 use Rattle.doomsight_c.specs.Faults.{fault_view}
 use Rattle.doomsight_c.specs.Lines.{IsOfLibrary, status_in}
 use Rattle.doomsight_c.proofs.Giving.{IsLibrarys, of_reading}
-
-module _ (p : PlanParts) (t : TableParts) where
-  abbrev Saying : (Certificate → AnyVerdict → Type 0) → Result Certificate CertFault → Judged → Type 0
-  Saying P r j = JudgedBy r P j
-
-  one_promise : (r : Result Certificate CertFault) (j : Judged) → Saying (λ c v. Judges p t c v) r j → Saying (λ c v. IsYesAny v ↔ IsAccepted (map_of p) t.bytes c) r j
-      → Saying (λ c v. IsYesAny v → TellsSight (map_of p) t c) r j → Saying (λ c v. IsJudged p t c v) r j
-  one_promise (Ok c) (judged.Verdict v) exact accepted sight = record { exact = exact; accepted = accepted; sight = sight }
-  one_promise (Ok c) (judged.Unread g) exact accepted sight = absurd exact
-  one_promise (Err f) (judged.Verdict v) exact accepted sight = absurd exact
-  one_promise (Err f) (judged.Unread g) exact accepted sight = exact
-
-  pub promised : (r : Result Certificate CertFault) (given : Result Judged Memory) → IfOk given (Saying (λ c v. Judges p t c v) r) → IfOk given (Saying (λ c v. IsYesAny v ↔ IsAccepted (map_of p) t.bytes c) r)
-      → IfOk given (Saying (λ c v. IsYesAny v → TellsSight (map_of p) t c) r) → IfOk given (JudgedBy r (IsJudged p t))
-  promised r (Ok j) exact accepted sight = one_promise r j exact accepted sight
-  promised r (Err e) exact accepted sight = tt
 
 -- ---- a verdict was given, or the certificate wasn't read
 

@@ -1,5 +1,5 @@
 -- What the check of a table by a certificate gives.
-use Rattle.std.specs.Prelude.{◌≡◌, ◌↔◌, ℕ, List, Option, Some, None, Result, Ok, Err, length, ⊤}
+use Rattle.std.specs.Prelude.{◌≡◌, ℕ, List, Option, Some, None, Result, Ok, Err, length, ⊤}
 use Rattle.sight_names.specs.Map.{Map, map_of}
 use Rattle.sight_names.specs.Plan.{PlanParts}
 use Rattle.sight_names.specs.Sound.{LinesMeetAtEnds}
@@ -14,12 +14,9 @@ use Rattle.certificates.specs.Reading.{certificate_at}
 use Rattle.group_checker.specs.declared.verdict.AnyFault.TheVariants as fault
 use Rattle.group_checker.specs.declared.verdict.AnyVerdict.{AnyVerdict}
 use Rattle.group_checker.specs.declared.verdict.AnyVerdict.TheVariants as verdict
-use Rattle.group_checker.specs.Judged.{IsYesAny}
-use Rattle.any_judge.specs.Accepted.{IsAccepted, TellsSight}
-use Rattle.any_judge.specs.Judged.{Judges}
+use Rattle.any_judge.specs.CertFile.Judgement.{IsJudged}
 use Rattle.cert_judge.specs.declared.judged.Judged.{Judged}
 use Rattle.cert_judge.specs.declared.judged.Judged.TheVariants as judged
-use Rattle.cert_judge.specs.Judged.{JudgedBy}
 use Rattle.map_answers.specs.Sound.{IsLineRefusal}
 use Rattle.map_answers.specs.declared.sight_status.status.Why.TheVariants as why
 use Rattle.map_answers.specs.declared.sight_status.status.Status.{Status}
@@ -32,16 +29,6 @@ use Rattle.doomsight_c.specs.Lines.{status_in}
 -- the totals of a yes as C reads them, with the sectors of the map and the size of the certificate
 abbrev pub totals_view : Totals → ℕ → ℕ → DoomsightCounts
 totals_view t sectors size = record { sectors = sectors; set = t.set; clear = t.clear; listed = t.listed; cert_size = size }
-
--- what is promised of a verdict on a table by a certificate of any version
-pub record IsJudged (p : PlanParts) (table : TableParts) (cert : Certificate) (v : AnyVerdict) : Type 0 where
-  pub exact : Judges p table cert v
-  -- it is yes exactly where the certificate is accepted for the table, and then the table tells of sight
-  pub accepted : IsYesAny v ↔ IsAccepted (map_of p) table.bytes cert
-  pub sight : IsYesAny v → TellsSight (map_of p) table cert
-
-abbrev pub IsJudgement : PlanParts → TableParts → List ℕ → Judged → Type 0
-IsJudgement p table bytes given = JudgedBy (certificate_at (sizes_of p) bytes) (IsJudged p table) given
 
 -- the table of n sectors that the bytes spell: their bits, with the spare ones clear
 pub record IsTableOf (n : ℕ) (bytes : List ℕ) (table : TableParts) : Type 0 where

@@ -5,7 +5,8 @@ ghost use Rattle.sight_names.specs.Map.{map_of};
 ghost use Rattle.sight_names.specs.Sound.{LinesMeetAtEnds};
 ghost use Rattle.doomsight_c.specs.Lumps.{of_lumps_given};
 ghost use Rattle.map_answers.specs.Sound.{HasSoundLines};
-ghost use Rattle.doomsight_c.specs.Checked.{ChecksMap, IsJudgement, IsUnproved, IsYes, TakesTable, VerdictOf};
+ghost use Rattle.any_judge.specs.CertFile.Judgement.{IsJudgement};
+ghost use Rattle.doomsight_c.specs.Checked.{ChecksMap, IsUnproved, IsYes, TakesTable, VerdictOf};
 
 use crate::counts::{DoomsightCounts, counts_of_totals};
 use crate::fault::{DoomsightFault, fault_of};

@@ -1,37 +1,21 @@
 -- A ray of the map of groups joins sectors of the map: passable lines have a name on each side.
-use Rattle.std.proofs.Common.{◌≡◌, ℕ, Option, Some, None, IsTrue, Bool, true, false, not, option_and_then, refl, ap, ◌∙◌, subst}
+use Rattle.std.proofs.Common.{◌≡◌, ℕ, Option, Some, None, IsTrue, Bool, true, false, not, option_and_then, refl, ap, ◌∙◌}
 use Rattle.sight_names.specs.declared.names.Ask.{Ask}
 use Rattle.sight_names.specs.declared.names.Pair.{Pair}
-use Rattle.sight_names.specs.declared.names.Pt.{Pt}
 use Rattle.sight_names.specs.declared.names.Ray.{Ray}
 use Rattle.sight_names.specs.declared.names.Side.{Side}
 use Rattle.sight_names.specs.Map.{IsMap, IsMapLine, Map, MapLine, Names, line_at, map_of, sector_on}
-use Rattle.sight_names.specs.Path.{MissesSolid, OnLine}
+use Rattle.sight_names.specs.Path.{MissesSolid}
 use Rattle.sight_names.specs.Plan.{PlanParts, IsPlan}
-use Rattle.sight_names.specs.Point.{OnSegment, Point}
-use Rattle.sight_names.specs.Ray.{IsCrossing, IsSightRay, SplitsLine}
+use Rattle.sight_names.specs.Point.{OnSegment}
+use Rattle.sight_names.specs.Ray.{IsSightRay}
 use Rattle.sight_names.proofs.Laws.{on_segment_sym, start_on}
 use Rattle.sight_names.proofs.PlanMap.{plan_is_map}
-use Rattle.face_groups.proofs.GroupsBase.SameLines.{HaveSameLines, IsSameLine, line_of, lines_alike, misses_solid_alike, same_lines_sym}
+use Rattle.face_groups.proofs.GroupsBase.SameLines.{HaveSameLines, line_of, lines_alike, misses_solid_alike, same_lines_sym}
 use Rattle.map_picture.specs.Picture.{JoinsSectors}
 use Rattle.pair_answer.specs.declared.answer.PairAnswer.TheVariants as answer
 use Rattle.pair_answer.specs.Answer.{IsAnswerFor}
-
--- ---- lines with the same ends
-
-ends_so : (l k : MapLine) → IsSameLine l k → (P : Pt → Pt → Type 0) → P l.first l.second → P k.first k.second
-ends_so l k h P x = subst (λ (q : Pt). P q k.second) h.first (subst (λ (q : Pt). P l.first q) h.second x)
-
--- a line with these ends
-abbrev between : MapLine → Pt → Pt → MapLine
-between l p q = record { first = p; second = q; solid = l.solid; right = l.right; left = l.left }
-
-splits_so : (ray : Ray) (l k : MapLine) (left : Bool) → IsSameLine l k → SplitsLine ray l left → SplitsLine ray k left
-splits_so ray l k true h x = ends_so l k h (λ p q. SplitsLine ray (between l p q) true) x
-splits_so ray l k false h x = ends_so l k h (λ p q. SplitsLine ray (between l p q) false) x
-
-crosses_so : (ray : Ray) (l k : MapLine) (r : Point) → IsSameLine l k → IsCrossing ray l r → IsCrossing ray k r
-crosses_so ray l k r h x = (ends_so l k h (λ p q. OnLine (between l p q) r) x.0, x.1)
+use Rattle.pair_answer.proofs.OneName.{crosses_so, splits_so}
 
 -- ---- names
 

@@ -1,19 +1,14 @@
 //! What sight out of the groups of a sector enters, and where it ends.
 
 ghost use Rattle.std.specs.Prelude.{IfOk};
-ghost use Rattle.sight_names.specs.Enough.{IsBudgetOf};
-ghost use Rattle.sight_names.specs.Map.{map_of};
-ghost use Rattle.sight_names.specs.Mesh.{IsMeshOf};
 ghost use Rattle.map_answers.specs.Groups.{AreGroupsOver, seen};
 ghost use Rattle.draw_answers.specs.Pair.{IsAreaOfPair, IsEnteredFrom};
 
 use crate::audited::count_of;
-use crate::places::places_of;
 use map_answers::MeshGroups;
-use mesh_shape::Mesh;
 use pair_answer::entered_triangles::{Entered, entered_out_of};
-use portal_walk::enough_budget::enough;
-use sight_names::{Ask, Budget, Memory, Pair, Plan};
+use pair_answer::places_of;
+use sight_names::{Budget, Memory, Pair, Plan};
 use std::alloc::Global;
 
 /// What sight out of the groups of this sector enters.
@@ -21,18 +16,6 @@ use std::alloc::Global;
 pub struct Area {
     pub sector: u16,
     pub entered: Entered,
-}
-
-/// The budget that is asked for.
-pub fn budget_for(ask: Ask, plan: &Plan, mesh: &Mesh) -> Budget
-    requires { IsMeshOf (map_of plan.now) mesh.now.triangles }
-    ensures { IsBudgetOf (map_of plan.now) ask result }
-{
-    match ask {
-        Ask::Of(n) => Budget::Of(n),
-        Ask::Full => Budget::Full,
-        Ask::Enough => Budget::Of(enough(plan, mesh)),
-    }
 }
 
 /// What sight out of the groups of a sector enters; nothing where the walk of one of them doesn't end within the budget.

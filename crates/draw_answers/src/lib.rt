@@ -10,7 +10,6 @@ mod heat;
 pub mod laws;
 mod lines;
 mod pair;
-mod places;
 mod plan;
 mod row;
 

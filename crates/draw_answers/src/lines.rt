@@ -2,14 +2,14 @@
 
 ghost use Rattle.std.specs.Prelude.{◌≡◌, ◌++◌, IfOk, OnOk, codes, string_bytes};
 ghost use Rattle.sight_names.specs.Texts.{side_text};
-ghost use Rattle.map_answers.specs.SightStatus.Texts.{clash_words, flaw_words, two};
+ghost use Rattle.map_answers.specs.SightStatus.Texts.{flaw_words, two};
 ghost use Rattle.draw_answers.specs.Heat.{heat_line_of};
 ghost use Rattle.draw_answers.specs.Lines.{blind_line_of as the_blind_line, faultless_line, flaw_line, of_words, pair_front, pair_line, plan_line_of as the_plan_line, row_line_of as the_row_line};
 
 use map_answers::sight_status::{
-    Flaw, push_count, push_count_line, push_number, push_pair_line, push_text,
+    Flaw, push_clash, push_count, push_count_line, push_number, push_text,
 };
-use sight_names::{LineFault, Pair, Side};
+use sight_names::{Pair, Side};
 use std::alloc::{AllocError, Global};
 
 /// The line of a plan with so many lines and sectors.
@@ -110,17 +110,6 @@ pub fn no_fault_line(alloc: Global, map: &str) -> Result<String, AllocError>
     line.push_str(map)?;
     line.push_str(" faults none\n")?;
     Ok(line)
-}
-
-/// Adds the words of two lines that share more than an end of both.
-fn push_clash(alloc: Global, line: &mut String, fault: LineFault) -> Result<(), AllocError>
-    ensures { OnOk result (string_bytes line.new ≡ string_bytes line.old ++ clash_words fault) }
-{
-    match fault {
-        LineFault::Cross { i, j } => push_pair_line(alloc, line, "cross ", i, j),
-        LineFault::Touch { i, j } => push_pair_line(alloc, line, "touch ", i, j),
-        LineFault::Overlap { i, j } => push_pair_line(alloc, line, "overlap ", i, j),
-    }
 }
 
 /// Adds the words of an open side.

@@ -12,12 +12,12 @@ ghost use Rattle.draw_answers.specs.Pair.{DrawPairCalls, IsPairIfMade, ShowsBlin
 
 use crate::audited::groups_of;
 use crate::drawn::{Drawn, made};
-use crate::entering::{Area, area_of_pair, budget_for};
+use crate::entering::{Area, area_of_pair};
 use crate::lines::{blind_line, word_line};
 use map_answers::MeshGroups;
 use map_answers::sight_status::{Status, Why};
 use map_picture::{Named, blind_picture, pair_picture, sight_picture};
-use pair_answer::{PairAnswer, pair_answer};
+use pair_answer::{PairAnswer, budget_for, pair_answer};
 use sight_names::{Ask, Memory, Pair, Plan, Ray};
 use std::alloc::Global;
 

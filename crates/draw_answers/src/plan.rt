@@ -1,8 +1,7 @@
 //! The picture of the plan alone.
 
-ghost use Rattle.std.specs.Prelude.{◌≡◌, IfErr, IfOk, List, ℕ, filter_map, length, ⊤};
+ghost use Rattle.std.specs.Prelude.{◌≡◌, IfErr, IfOk, List, ℕ, length, ⊤};
 ghost use Rattle.sight_names.specs.Map.{map_of};
-ghost use Rattle.sight_names.specs.Points.{lines_of};
 ghost use Rattle.map_answers.specs.Groups.{AreGroupsOver, seen};
 ghost use Rattle.map_answers.specs.SightStatus.Answer.{Gives};
 ghost use Rattle.map_picture.specs.Bytes.{svg_of};
@@ -14,31 +13,11 @@ ghost use Rattle.draw_answers.specs.Plan.{DrawPlanCalls, plan_drawing};
 use crate::audited::groups_of;
 use crate::drawn::{Drawn, made};
 use crate::lines::plan_line;
-use map_answers::MeshGroups;
 use map_answers::sight_status::Status;
+use map_answers::{MeshGroups, count_lines};
 use map_picture::{Named, plan_picture};
-use sight_names::{Line, Memory, Plan};
+use sight_names::{Memory, Plan};
 use std::alloc::Global;
-
-/// How many of the records are lines.
-fn count_of(lines: &[Option<Line>]) -> u64
-    ensures { result ≡ length (filter_map (λ line. line) lines.now) }
-{
-    let mut count = 0;
-    for line in lines {
-        if line.is_some() {
-            count += 1;
-        }
-    }
-    count
-}
-
-/// How many lines the map has.
-fn count_lines(plan: &Plan) -> u64
-    ensures { result ≡ length (lines_of (map_of plan.now)) }
-{
-    count_of(plan.lines())
-}
 
 /// The plan with the faces of its groups.
 pub fn faces_alone(

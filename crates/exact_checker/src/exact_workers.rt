@@ -5,3 +5,4 @@ mod check;
 mod judging;
 
 pub use check::check_exact_par;
+pub use judging::source_of;

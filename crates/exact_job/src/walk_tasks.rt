@@ -1,27 +1,19 @@
 //! Walks that any worker can do, since none depends on what another one finds.
 
-ghost use Rattle.std.specs.Prelude.{◌≡◌, ◌*◌, ◌<◌, ◌≤◌, length};
+ghost use Rattle.std.specs.Prelude.{◌*◌, ◌<◌, ◌≤◌, length};
 ghost use Rattle.exact_checker.specs.Owning.{IsSized, owning_of};
 ghost use Rattle.gate_floods.specs.RowJudge.Masks.{rows_of};
 ghost use Rattle.row_trees.specs.Walkable.{Ground as GroundOf, IsWalkable};
 ghost use Rattle.exact_job.specs.Trees.{IsOwnedWalk};
 
 use cert_checker::tree_judge::Terrain;
+use exact_checker::exact_workers::source_of;
 use exact_checker::{Owning, owned_row};
 use gate_floods::row_judge::Masks;
 use row_trees::{Made, Walk, walk_by_row};
 use sight_names::Memory;
 use std::alloc::Global;
 use task_crew::Tasks;
-
-/// The group with this number, of so many.
-fn source_of(count: u16, number: usize) -> u16
-    requires { number < count }
-    ensures { result ≡ number }
-{
-    let _ = count;
-    number as u16
-}
 
 /// For each group the walk with what it owns.
 #[derive(Drop)]

@@ -27,6 +27,7 @@ use Rattle.sight_lift.proofs.SequenceLaws.All.{stand_in_order}
 use Rattle.reject_bits.specs.Parts.{Rejects}
 use Rattle.cert_format.specs.Parts.{CertParts}
 use Rattle.cert_format.specs.Accepted.{HasRay, IsNamed}
+use Rattle.cert_checker.proofs.SightRays.{open_is_sight}
 use Rattle.pair_budget.specs.declared.results.Reached.{Reached}
 use Rattle.pair_budget.specs.declared.results.SourceResult.{SourceResult}
 use Rattle.pair_budget.specs.declared.results.Verdicts.{Verdicts}
@@ -52,23 +53,7 @@ module _ (p : PlanParts) (plan : IsPlan p) (ts : List Triangle) (ls : List (Opti
       (ray_of_sequence (map_of p) (plan_is_map p plan) ts ls good source h.sequence (h.before ++ h.last ∷ []) h.is r.ray.a r.ray.b r.ray.c h.splits h.last (last_pushed h.last h.before None) r.ray.last h.arrives.line h.arrives.is_line (sym h.arrives.edge))
 
   found_sight : (source : ℕ) (r : Reached) → IsFoundAlong p ts ls source r → IsSightRay (map_of p) r.ray source r.to
-  found_sight source r h = let o = open_ray source r h.is_through in record {
-    range = h.is_reached.range;
-    from = h.is_reached.from;
-    to = h.is_reached.to_it;
-    first = o.first;
-    is_first = o.is_first;
-    last = o.last;
-    is_last = o.is_last;
-    leaves = o.leaves;
-    arrives = o.arrives;
-    start = o.start;
-    stop = o.stop;
-    starts = o.starts;
-    stops = o.stops;
-    forward = o.forward;
-    clear = o.clear;
-  }
+  found_sight source r h = open_is_sight (map_of p) r.ray source r.to (open_ray source r h.is_through) h.is_reached.range h.is_reached.from h.is_reached.to_it
 
   -- a ray that a walk found, or such a ray turned round, is a sight ray of its pair
   pub sight_ray_along : (r : PairRay) → IsRayAlong p ts ls r → IsSightRay (map_of p) r.ray r.pair.a r.pair.b

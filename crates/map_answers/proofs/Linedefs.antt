@@ -17,7 +17,7 @@ clash : (e : Status) (m : Map) → ◌≡◌ {A = Result Map Status} (Err e) (Ok
 clash e m h = cc
 
 -- a map is made where there is no fault, and it is the one that is spelled
-no_fault : (f : Option LumpFault) (m n : Map) → of_lumps f m ≡ Ok n → (f ≡ None) × (m ≡ n)
+pub no_fault : (f : Option LumpFault) (m n : Map) → of_lumps f m ≡ Ok n → (f ≡ None) × (m ≡ n)
 no_fault None m n e = (refl, cc)
 no_fault (Some (lump.TooManySectors count)) m n e = absurd (clash _ n e)
 no_fault (Some (lump.TooManyLines count)) m n e = absurd (clash _ n e)
@@ -40,7 +40,7 @@ unfolding lump_fault
 whole_records reading linedefs sidedefs vertexes sectors e =
     eqb-true (length linedefs % linedef_len reading.format) 0 (first_passes (length linedefs % linedef_len reading.format == 0) (lump.BadSize Linedefs) _ e)
 
-length_numbers : (k n : ℕ) → length (numbers_from k n) ≡ n
+pub length_numbers : (k n : ℕ) → length (numbers_from k n) ≡ n
 length_numbers k zero = refl
 length_numbers k (suc n) = ap suc (length_numbers (k + 1) n)
 

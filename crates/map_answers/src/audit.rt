@@ -15,7 +15,7 @@ use sight_names::{Line, Plan};
 use std::alloc::{AllocError, Global};
 
 /// How many of the records are lines.
-fn count_lines(lines: &[Option<Line>]) -> u64
+fn count_of(lines: &[Option<Line>]) -> u64
     ensures { result ≡ length (filter_map (λ line. line) lines.now) }
 {
     let mut count = 0;
@@ -25,6 +25,13 @@ fn count_lines(lines: &[Option<Line>]) -> u64
         }
     }
     count
+}
+
+/// How many lines the map has.
+pub fn count_lines(plan: &Plan) -> u64
+    ensures { result ≡ length (lines_of (map_of plan.now)) }
+{
+    count_of(plan.lines())
 }
 
 /// How many of the triangles have a label.
@@ -56,7 +63,7 @@ fn counts_of(plan: &Plan, labels: &Labels) -> MapCounts
     ensures triangles { result.triangles ≡ length (filter_map (λ label. label) labels.now) }
 {
     MapCounts {
-        lines: count_lines(plan.lines()),
+        lines: count_lines(plan),
         points: plan.points().len() as u64,
         sectors: u64::from(plan.sectors),
         triangles: count_labels(labels.as_slice()),

@@ -107,7 +107,7 @@ fn judge_path(alloc: Global, plan: &Plan, dampers: &[bool], pair: Pair) -> Resul
 }
 
 /// The first number of the pair that is of no sector.
-fn missing(plan: &Plan, pair: Pair) -> Option<u16>
+pub fn missing(plan: &Plan, pair: Pair) -> Option<u16>
     ensures { MatchOption result ((pair.a < plan.now.sectors) × (pair.b < plan.now.sectors)) (IsMissing (map_of plan.now) pair) }
 {
     if pair.a >= plan.sectors {

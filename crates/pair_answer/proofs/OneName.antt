@@ -30,11 +30,11 @@ ends_so l k h P x = subst (λ (q : Pt). P q k.second) h.first (subst (λ (q : Pt
 abbrev between : MapLine → Pt → Pt → MapLine
 between l p q = record { first = p; second = q; solid = l.solid; right = l.right; left = l.left }
 
-splits_so : (ray : Ray) (l k : MapLine) (left : Bool) → IsSameLine l k → SplitsLine ray l left → SplitsLine ray k left
+pub splits_so : (ray : Ray) (l k : MapLine) (left : Bool) → IsSameLine l k → SplitsLine ray l left → SplitsLine ray k left
 splits_so ray l k true h x = ends_so l k h (λ p q. SplitsLine ray (between l p q) true) x
 splits_so ray l k false h x = ends_so l k h (λ p q. SplitsLine ray (between l p q) false) x
 
-crosses_so : (ray : Ray) (l k : MapLine) (r : Point) → IsSameLine l k → IsCrossing ray l r → IsCrossing ray k r
+pub crosses_so : (ray : Ray) (l k : MapLine) (r : Point) → IsSameLine l k → IsCrossing ray l r → IsCrossing ray k r
 crosses_so ray l k r h x = (ends_so l k h (λ p q. OnLine (between l p q) r) x.0, x.1)
 
 -- ---- rays

@@ -41,7 +41,7 @@ use Rattle.pair_answer.specs.Places.{ArePlacesOf}
 over_back : (g : Map) (ts : List Triangle) (ls : List (Option ℕ)) (budget : Budget) (f k : ℕ) → IsListedOver g ts ls budget f k → IsListedOver g ts ls budget k f
 over_back g ts ls budget f k l = record { differ = λ e. l.differ (sym e); connected = connected_back g f k l.connected; not_found = l.not_found_back; not_found_back = l.not_found; spent = l.spent_too; spent_too = l.spent }
 
-listed_back : (m : Map) (budget : Budget) (a b : ℕ) → IsListedByGroups m budget a b → IsListedByGroups m budget b a
+pub listed_back : (m : Map) (budget : Budget) (a b : ℕ) → IsListedByGroups m budget a b → IsListedByGroups m budget b a
 listed_back m budget a b l = record {
   groups = l.groups;
   are_groups = l.are_groups;

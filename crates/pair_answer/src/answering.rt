@@ -1,32 +1,20 @@
 //! The answer for two sectors of a map with closed faces.
 
-ghost use Rattle.std.specs.Prelude.{◌≡◌, ◌<◌, IfOk, MatchOption};
+ghost use Rattle.std.specs.Prelude.{◌≡◌, ◌<◌, IfOk};
 ghost use Rattle.sight_names.specs.Enough.{IsBudgetOf};
 ghost use Rattle.sight_names.specs.Map.{map_of};
 ghost use Rattle.sight_names.specs.Mesh.{IsMeshOf};
-ghost use Rattle.pair_answer.specs.Answer.{AreGroupsOver, IsAnswerFor, IsMissing};
+ghost use Rattle.pair_answer.specs.Answer.{AreGroupsOver, IsAnswerFor};
 
 use crate::answer::PairAnswer;
 use crate::between::walk_between;
 use crate::places::{places_of, share_one};
 use face_groups::Grouped;
+use map_answers::missing;
 use mesh_shape::Mesh;
 use portal_walk::enough_budget::enough;
 use sight_names::{Ask, Budget, Memory, Pair, Plan};
 use std::alloc::Global;
-
-/// The first number of the pair that is of no sector.
-fn missing(plan: &Plan, pair: Pair) -> Option<u16>
-    ensures { MatchOption result ((pair.a < plan.now.sectors) × (pair.b < plan.now.sectors)) (IsMissing (map_of plan.now) pair) }
-{
-    if pair.a >= plan.sectors {
-        return Some(pair.a);
-    }
-    if pair.b >= plan.sectors {
-        return Some(pair.b);
-    }
-    None
-}
 
 /// How many sectors the plan has.
 fn count_of(plan: &Plan) -> u16
@@ -36,7 +24,7 @@ fn count_of(plan: &Plan) -> u16
 }
 
 /// The budget that is asked for.
-fn budget_for(ask: Ask, plan: &Plan, mesh: &Mesh) -> Budget
+pub fn budget_for(ask: Ask, plan: &Plan, mesh: &Mesh) -> Budget
     requires { IsMeshOf (map_of plan.now) mesh.now.triangles }
     ensures { IsBudgetOf (map_of plan.now) ask result }
 {

@@ -15,4 +15,5 @@ mod walks;
 pub mod why_answers;
 
 pub use answer::PairAnswer;
-pub use answering::pair_answer;
+pub use answering::{budget_for, pair_answer};
+pub use places::places_of;

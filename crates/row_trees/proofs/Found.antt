@@ -30,6 +30,7 @@ use Rattle.gate_floods.specs.declared.row_judge.walk.RowWalk.{RowWalk}
 use Rattle.gate_floods.specs.RowJudge.Words.{row_at, is_in, is_away}
 use Rattle.gate_floods.specs.RowJudge.Asked.{Pending}
 use Rattle.gate_floods.specs.RowJudge.Judged.{StandsAt}
+use Rattle.cert_checker.proofs.SightRays.{open_is_sight}
 use Rattle.row_trees.specs.Finding.{had_in, wanted_in, IsAlong}
 use Rattle.row_trees.specs.Walkable.{Scene, Search, IsWalkable}
 use Rattle.row_trees.specs.Thinner.{IsWithin, IsPresent, AreThinner, SameButRows, AreThinned}
@@ -133,23 +134,7 @@ module _ (c : Scene) (s : Search) where
         (subst (λ (es : List EndPoints). SplitsEnds es r.ray.a r.ray.b r.ray.c) on.comes.ends splits) (portal_of x) (last_pushed (portal_of x) on.comes.before None) r.ray.last at.line at.is_line (sym at.edge))
 
     pub sight_ray : IsSightRay (map_of s.ground.plan) r.ray s.source r.to
-    sight_ray = let o = open_ray in record {
-      range = reached_from.range;
-      from = reached_from.from;
-      to = reached_from.to_it;
-      first = o.first;
-      is_first = o.is_first;
-      last = o.last;
-      is_last = o.is_last;
-      leaves = o.leaves;
-      arrives = o.arrives;
-      start = o.start;
-      stop = o.stop;
-      starts = o.starts;
-      stops = o.stops;
-      forward = o.forward;
-      clear = o.clear;
-    }
+    sight_ray = open_is_sight (map_of s.ground.plan) r.ray s.source r.to open_ray reached_from.range reached_from.from reached_from.to_it
 
   -- ---- what is needed for the ray
 

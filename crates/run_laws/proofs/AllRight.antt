@@ -10,7 +10,6 @@ use Rattle.sight_names.specs.declared.names.Method.{Method}
 use Rattle.sight_names.specs.declared.names.Method.TheVariants as how
 use Rattle.sight_names.specs.Groups.{HasClosedFaces}
 use Rattle.sight_names.specs.Map.{Map}
-use Rattle.map_audit.proofs.AuditLemmas.{not_sound}
 use Rattle.shelf_io.specs.Shelf.{Files}
 use Rattle.wad_dir.specs.declared.all_maps.parts.Change.{Change}
 use Rattle.wad_dir.specs.declared.parts.MapSpot.{MapSpot}
@@ -38,7 +37,7 @@ use Rattle.whole_wad.specs.declared.fate.Fate.{Fate}
 use Rattle.whole_wad.specs.declared.fate.Fate.TheVariants as fate
 use Rattle.whole_wad.specs.Outcomes.{ComesOf, change_by, changes_of, stop_of}
 use Rattle.whole_wad.specs.Report.{report_of}
-use Rattle.whole_wad.specs.Tables.{Gets, IsFlawOf, IsTableOf, built_with}
+use Rattle.whole_wad.specs.Tables.{Gets, IsTableOf, built_with}
 use Rattle.sight_run.specs.All.{AllCalls, MapsCall, OnRead, ShowsAll, maps_in, wad_in}
 use Rattle.sight_run.specs.Build.{report_behind, wad_output}
 use Rattle.sight_run.specs.Check.{reject_of}
@@ -54,6 +53,7 @@ use Rattle.run_laws.specs.Headline.{AllIsExact, AllIsRight, IsSoundIn, LeavesCle
 use Rattle.run_laws.proofs.AllWritten.{fetched_wad, named_there, was_written}
 use Rattle.run_laws.proofs.SameMaps.{HasSameMap}
 use Rattle.run_laws.proofs.RightTables.{found_there, leaves_exact, leaves_right, was_answered}
+use Rattle.whole_wad.proofs.OneOutcome.{no_flaw}
 
 -- ---- the map of a name in the WAD
 
@@ -230,11 +230,6 @@ not_ok : (made : Result MapTable Status) (s : Status) → made ≡ Err s → IsO
 not_ok (Ok t) s e ok = cc
 not_ok (Err t) s e ok = cc
 
-pub flawless : (m : Map) (s : Status) → HasClosedFaces m → IsFlawOf m s → ⊥
-flawless m (status.BadMap (flaw.Line fault)) closed h = not_sound m fault h closed.ends
-flawless m (status.BadMap (flaw.Open side)) closed h = h.1.against (closed.closed side)
-flawless m s closed h = absurd h
-
 module _ (wad : Source) (files : Files) (w : WadFile) (method : Method) (is_wad : wad_in wad.file files ≡ Ok w) (name : List ℕ) where
   sound_by : (r : Result Map Status) (made : Result MapTable Status) → map_named wad.large w name ≡ r → Gets r method made → IsOk made → IsSoundIn wad name files
   sound_by (Ok m) (Ok t) e g ok = let x = found_named wad name files w m is_wad e in (x.found, x.is_found, subst HasClosedFaces (sym x.is_map) g.is_built.fit)
@@ -246,7 +241,7 @@ module _ (wad : Source) (files : Files) (w : WadFile) (method : Method) (is_wad 
     where
       by : (r : Result MapTable Status) → Gets (Ok found.map) method r → IsOk r
       by (Ok t) h = refl
-      by (Err s) h = absurd (flawless found.map s closed h)
+      by (Err s) h = absurd (no_flaw found.map s closed h)
 
 -- ---- all of it
 

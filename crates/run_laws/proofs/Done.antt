@@ -1,5 +1,5 @@
 -- How `build`, `all`, `why` and the picture of a pair end where no count of faults rose.
-use Rattle.std.proofs.Common.{◌≡◌, ◌⊎◌, inl, inr, ℕ, Bool, true, false, List, Option, Result, Ok, Err, refl, sym, ap, subst}
+use Rattle.std.proofs.Common.{◌≡◌, ◌⊎◌, inl, inr, ℕ, Bool, true, List, Option, Result, Ok, Err, refl, sym, ap, subst}
 use Rattle.sight_names.specs.declared.names.Ask.{Ask}
 use Rattle.sight_names.specs.declared.names.Method.{Method}
 use Rattle.sight_names.specs.declared.names.Pair.{Pair}
@@ -34,13 +34,11 @@ use Rattle.refused_maps.specs.declared.Refused.{Refused}
 use Rattle.run_laws.specs.Laws.{AllIsDone, BuildIsDone, DrawnPairIsDone, EndsAll, EndsBuild, EndsPair, WhyIsDone}
 use Rattle.sight_run.specs.Obeys.{AnswersAsked, IsAnswer}
 use Rattle.sight_run.specs.Run.{NothingRose, RunEnds, StatusCause}
+use Rattle.math_base.proofs.Bools.{not_both_values}
 
 -- each answer that is called for judges nothing that isn't right
 AreRight : (List (List ℕ)) → Files → Heard → Type 0
 AreRight words files heard = (answer : Answer) → IsAnswer words files heard (Ok answer) → answer.right ≡ true
-
-not_right : (b : Bool) → b ≡ true → b ≡ false → ⊥
-not_right b e f = cc
 
 -- each status but Done and Memory is then a refusal that is called for
 Refuses : (List (List ℕ)) → Files → Heard → Status → Type 0
@@ -49,7 +47,7 @@ Refuses words files heard s = (s ≡ status.Done) ⊎ ((s ≡ status.Memory tt) 
 refuses : (words : List (List ℕ)) (files : Files) (heard : Heard) (before after : ShelfState) (o n : SinkState) (s : Status) → AreRight words files heard → NothingRose before after o n → RunEnds words files heard before after o n s → StatusCause before after o n s → Refuses words files heard s
 unfolding Refuses AreRight
 refuses words files heard before after o n status.Done are quiet ends cause = inl refl
-refuses words files heard before after o n status.NotRight are quiet ends cause = absurd (not_right ends.ends.answer.right (are ends.ends.answer ends.ends.called.called) ends.ends.right_is)
+refuses words files heard before after o n status.NotRight are quiet ends cause = absurd (not_both_values ends.ends.answer.right (are ends.ends.answer ends.ends.called.called) ends.ends.right_is)
 refuses words files heard before after o n (status.Memory _) are quiet ends cause = inr (inl refl)
 refuses words files heard before after o n (status.ReadFault k) are quiet ends cause = absurd (quiet.shelf.reads cause.0)
 refuses words files heard before after o n (status.WriteFault role.Text) are quiet ends cause = absurd (quiet.puts cause)

@@ -1,6 +1,5 @@
 -- A map that was found is that of a plan.
-use Rattle.std.proofs.Common.{◌≡◌, ℕ, List, Bool, true, false, Err, Option, Some, None, Result, Ok, refl, subst}
-use Rattle.sight_names.specs.declared.faults.LumpFault.{LumpFault}
+use Rattle.std.proofs.Common.{◌≡◌, ℕ, List, Bool, true, false, Err, Result, Ok, subst}
 use Rattle.sight_names.specs.declared.faults.LumpFault.TheVariants as lump
 use Rattle.sight_names.specs.declared.names.Reading.{Reading}
 use Rattle.sight_names.specs.Lumps.{lump_fault, map_of_lumps}
@@ -12,24 +11,13 @@ use Rattle.sight_names.specs.Plan.{IsPlan, PlanParts}
 use Rattle.wad_dir.specs.declared.parts.MapSpot.{MapSpot}
 use Rattle.wad_dir.specs.Wad.{WadFile}
 use Rattle.run_laws.proofs.Planned.{HasPlan, lumps_have_plan}
-use Rattle.map_answers.specs.declared.sight_status.status.Status.{Status}
-use Rattle.map_answers.specs.Input.{lump_at, map_at, of_four_lumps, of_lumps, of_text, reading_at, spelled}
+use Rattle.map_answers.specs.Input.{lump_at, map_at, of_four_lumps, of_text, reading_at, spelled}
 use Rattle.map_answers.specs.SightStatus.Answer.{◌>>=◌}
-
-taken : (fault : Option LumpFault) (given m : Map) → of_lumps fault given ≡ Ok m → (fault ≡ None) × (given ≡ m)
-taken None given m e = (refl, same e)
-  where
-    same : ◌≡◌ {A = Result Map Status} (Ok given) (Ok m) → given ≡ m
-    same e = cc
-taken (Some (lump.TooManySectors n)) given m e = absurd cc
-taken (Some (lump.TooManyLines n)) given m e = absurd cc
-taken (Some (lump.TooManyPoints n)) given m e = absurd cc
-taken (Some (lump.Memory _)) given m e = absurd cc
-taken (Some fault) given m e = absurd cc
+use Rattle.map_answers.proofs.Linedefs.{no_fault}
 
 four_plan : (reading : Reading) (linedefs sidedefs vertexes sectors : List ℕ) (m : Map) → of_four_lumps reading linedefs sidedefs vertexes sectors ≡ Ok m → HasPlan m
 four_plan reading linedefs sidedefs vertexes sectors m e =
-    let t = taken (lump_fault reading linedefs sidedefs vertexes sectors) (map_of_lumps reading.format linedefs sidedefs vertexes sectors) m e in
+    let t = no_fault (lump_fault reading linedefs sidedefs vertexes sectors) (map_of_lumps reading.format linedefs sidedefs vertexes sectors) m e in
     subst HasPlan t.1 (lumps_have_plan reading linedefs sidedefs vertexes sectors t.0)
 
 text_plan : (reading : Reading) (r : Result LumpBytes TextFault) (m : Map) → of_text r >>= (λ (l : LumpBytes). of_four_lumps reading l.linedefs l.sidedefs l.vertexes l.sectors) ≡ Ok m → HasPlan m

@@ -23,6 +23,7 @@ use Rattle.map_lumps.proofs.Assembling.{is_plan}
 use Rattle.map_lumps.proofs.Numbering.{in_order_is}
 use Rattle.map_lumps.proofs.WholeMap.{lumps_are_map, within_lines, within_points}
 use Rattle.math_base.proofs.Lists.{contains_here}
+use Rattle.map_answers.proofs.Linedefs.{length_numbers}
 
 -- the map is that of a plan
 pub record HasPlan (m : Map) : Type 0 where
@@ -139,10 +140,6 @@ passes_lines fault k (suc n) rest e =
     each one others zero lt = let same : k + 0 ≡ k = omega arith in ap fault same ∙ one
     each one others (suc i) lt = let same : k + suc i ≡ k + 1 + i = omega arith in ap fault same ∙ others i (omega (arith, lt))
 
-count_numbers : (k n : ℕ) → length (numbers_from k n) ≡ n
-count_numbers k zero = refl
-count_numbers k (suc n) = ap suc (count_numbers (k + 1) n)
-
 no_rest : (n : ℕ) → not (n == 0) ≡ false → n ≡ 0
 no_rest n h = grind arith
 
@@ -180,7 +177,7 @@ module _ (reading : Reading) (linedefs sidedefs vertexes sectors : List ℕ) whe
 
   line_count : length (map_of_lumps reading.format linedefs sidedefs vertexes sectors).lines ≡ count_linedefs reading.format linedefs
   unfolding map_of_lumps
-  line_count = length-map (numbers_below (count_linedefs reading.format linedefs)) (linedef reading.format linedefs sidedefs vertexes) ∙ count_numbers 0 (count_linedefs reading.format linedefs)
+  line_count = length-map (numbers_below (count_linedefs reading.format linedefs)) (linedef reading.format linedefs sidedefs vertexes) ∙ length_numbers 0 (count_linedefs reading.format linedefs)
 
   pub lumps_have_plan : lump_fault reading linedefs sidedefs vertexes sectors ≡ None → HasPlan (map_of_lumps reading.format linedefs sidedefs vertexes sectors)
   lumps_have_plan e =

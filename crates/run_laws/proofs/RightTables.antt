@@ -15,13 +15,11 @@ use Rattle.sight_names.specs.declared.names.Ask.TheVariants.{Enough, Full}
 use Rattle.sight_names.specs.declared.names.Budget.{Budget}
 use Rattle.sight_names.specs.declared.names.Method.TheVariants as how
 use Rattle.sight_names.specs.declared.names.Pair.{Pair}
-use Rattle.sight_names.specs.Found.{IsListedOver}
 use Rattle.sight_names.specs.Groups.{IsListedByGroups}
 use Rattle.sight_names.specs.Map.{Map}
 use Rattle.sight_names.specs.Sees.{Sees}
 use Rattle.sight_names.specs.Table.{IsTable, Rejected, table_bit}
 use Rattle.sight_names.proofs.Laws.{sees_sym}
-use Rattle.pair_budget.proofs.Connected.{connected_back}
 use Rattle.shelf_io.specs.Shelf.{Files, content_of}
 use Rattle.wad_dir.specs.Map.{same_name}
 use Rattle.reject_bits.specs.Parts.{Rejects, TableParts}
@@ -67,6 +65,7 @@ use Rattle.run_laws.proofs.Keeping.{build_keeps_lumps, built_stands}
 use Rattle.sight_run.proofs.OneLine.{one_line, one_wad}
 use Rattle.sight_run.proofs.Round.{found_again, found_then, passes, same_ok}
 use Rattle.sight_run.proofs.Stood.{bytes_of, of_words}
+use Rattle.pair_answer.proofs.Sectors.{listed_back}
 
 -- ---- what a run that was done answered
 
@@ -193,25 +192,6 @@ checked_is_right words wad name cert spelled files stand asked done =
     right_check wad name cert spelled files e.answer e.right (found_of wad name files) refl (subst (λ r. AnswersAsked r files done.heard (Ok e.answer)) asked e.called)
 
 -- ---- what a build tells of its table
-
--- a pair is listed in the one order where it is in the other
-listed_back : (m : Map) (budget : Budget) (a b : ℕ) → IsListedByGroups m budget a b → IsListedByGroups m budget b a
-listed_back m budget a b h = record {
-  groups = h.groups;
-  are_groups = h.are_groups;
-  grouped = h.grouped;
-  is_grouped = h.is_grouped;
-  triangles = h.triangles;
-  labels = h.labels;
-  mesh = h.mesh;
-  labelled = h.labelled;
-  differ = λ e. h.differ (sym e);
-  some = (h.some.1, h.some.0, h.some.3, h.some.2, over_back h.some.0 h.some.1 h.some.4);
-  none = λ f k in_b in_a. let n = h.none k f in_a in_b in (λ e. n.0 (sym e), n.2, n.1);
-}
-  where
-    over_back : (f k : ℕ) → IsListedOver h.grouped h.triangles h.labels budget f k → IsListedOver h.grouped h.triangles h.labels budget k f
-    over_back f k l = record { differ = λ e. l.differ (sym e); connected = connected_back h.grouped f k l.connected; not_found = l.not_found_back; not_found_back = l.not_found; spent = l.spent_too; spent_too = l.spent }
 
 module _ (m : Map) (method : Method) (built : Built) (is : IsBuiltOf m method built) where
   abbrev allowed : Budget

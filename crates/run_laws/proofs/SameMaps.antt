@@ -41,13 +41,6 @@ pub record HasSameMap (old new : WadFile) (name : List ℕ) : Type 0 where
 
 -- ---- where a bound stands
 
-pub then_before : (k : ℕ) (spot : MapSpot) → reject_then (further k spot) < shift_of spot.reject k + place_behind spot
-then_before k spot = by spot.reject
-  where
-    by : (o : Option ℕ) → elim (shifted k o) [ Some r ↦ r | None ↦ k + spot.sectors + 1 ] < shift_of o k + elim o [ Some r ↦ r + 1 | None ↦ spot.sectors + 1 ]
-    by (Some r) = omega arith
-    by None = omega arith
-
 inside_then : (k : ℕ) (spot : MapSpot) → spot.marker < reject_then spot → k + spot.marker < reject_then (further k spot)
 inside_then k spot = by spot.reject
   where

@@ -49,7 +49,7 @@ use Rattle.sight_run.specs.Words.{asked_of}
 use Rattle.sight_run.proofs.Round.{passes}
 use Rattle.run_laws.specs.Laws.{Sinks}
 use Rattle.run_laws.specs.Verified.{IsBlindWhereSet, IsRightReject, TellsBits, TellsFirst, TellsFirstOf, TellsReject, TellsRejects, VerifiedIsRight}
-use Rattle.run_laws.proofs.AllRight.{flawless}
+use Rattle.whole_wad.proofs.OneOutcome.{no_flaw}
 use Rattle.run_laws.proofs.FoundPlan.{map_at_plan, of_plan}
 use Rattle.run_laws.proofs.Planned.{HasPlan}
 
@@ -85,7 +85,7 @@ module _ (m : Map) (plan : HasPlan m) (reject : List ℕ) where
   tells_of_map : (said : Result Verdict Status) → IsVerdictOn (Ok m) reject said → TellsReject (Ok m) reject said
   tells_of_map (Ok (verdict.Short found expected)) h = h
   tells_of_map (Ok (verdict.Judged findings)) h = tells_bits findings h
-  tells_of_map (Err refusal) h = λ closed. flawless m refusal closed h.flaw
+  tells_of_map (Err refusal) h = λ closed. no_flaw m refusal closed h.flaw
 
 tells_of : (large : Bool) (w : WadFile) (name reject : List ℕ) (read : Result Map Status) (said : Result Verdict Status) → map_named large w name ≡ read → IsVerdictOn read reject said → TellsReject read reject said
 tells_of large w name reject (Ok m) said is h = tells_of_map m (named_plan large w name m is) reject said h

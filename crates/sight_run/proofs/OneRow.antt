@@ -1,10 +1,7 @@
 -- Of the row of a sector in a map's own table, and of its counts, there is one picture: its bits alone are drawn, and the bytes of the
 -- REJECT fix them.
-use Rattle.std.proofs.Common.{◌≡◌, ℕ, ◌+◌, ◌-◌, ◌*◌, ◌/◌, ◌%◌, ◌≤◌, ◌==◌, inl, inr, List, length, map, Result, Ok, Err, sym, ap, ◌∙◌, subst, arith, if◌then◌else◌}
-use Rattle.std.specs.Int.{bit_at}
+use Rattle.std.proofs.Common.{◌≡◌, ℕ, ◌+◌, ◌-◌, ◌*◌, ◌==◌, inl, inr, List, map, Result, Ok, Err, sym, ap, ◌∙◌, if◌then◌else◌}
 use Rattle.std.specs.List.{count_by, list_all, list_any, range_with_len}
-use Rattle.std.proofs.lemmas.List.{get_or_past}
-use Rattle.std.proofs.lemmas.Nat.Bits.{bit_at-zero}
 use Rattle.math_base.proofs.Numbers.{below_or_not}
 use Rattle.sight_names.specs.Map.{Map}
 use Rattle.sight_names.specs.Table.{table_bit}
@@ -25,16 +22,7 @@ use Rattle.draw_answers.specs.Heat.{DrawHeatCalls, HeatCall, clear_in_row, heat_
 use Rattle.draw_answers.specs.Lines.{row_line_of, set_in_row}
 use Rattle.draw_answers.specs.Row.{DrawRowCalls, RowCall, row_drawing}
 use Rattle.sight_run.specs.Check.{IsTableOf}
-
-past_bytes : (l k : ℕ) → 8 * l ≤ k → l ≤ k / 8
-past_bytes l k h = omega arith
-
--- a bit past those of the pairs is clear
-spare_clear : (n : ℕ) (bytes : List ℕ) (t : TableParts) → IsTableOf n bytes t → (k : ℕ) → n * n ≤ k → table_bit t.bytes k ≡ 0
-spare_clear n bytes t is k h = elim (below_or_not k (8 * length t.bytes)) as (λ _. table_bit t.bytes k ≡ 0) [
-  | inl lt ↦ is.whole.no_spare k (subst (λ (x : ℕ). x * x ≤ k) (sym is.sectors) h) lt
-  | inr past ↦ ap (λ (x : ℕ). bit_at x (k % 8)) (get_or_past t.bytes (k / 8) 0 (past_bytes (length t.bytes) k past)) ∙ bit_at-zero (k % 8)
-]
+use Rattle.whole_wad.proofs.OneTable.{spare_clear}
 
 module _ (n : ℕ) (bytes : List ℕ) (t u : TableParts) (is : IsTableOf n bytes t) (other : IsTableOf n bytes u) where
   sectors : t.n ≡ u.n
@@ -43,7 +31,7 @@ module _ (n : ℕ) (bytes : List ℕ) (t u : TableParts) (is : IsTableOf n bytes
   bits : (k : ℕ) → table_bit t.bytes k ≡ table_bit u.bytes k
   bits k = elim (below_or_not k (n * n)) as (λ _. table_bit t.bytes k ≡ table_bit u.bytes k) [
     | inl lt ↦ is.bits k lt ∙ sym (other.bits k lt)
-    | inr past ↦ spare_clear n bytes t is k past ∙ sym (spare_clear n bytes u other k past)
+    | inr past ↦ spare_clear n t is.sectors is.whole k past ∙ sym (spare_clear n u other.sectors other.whole k past)
   ]
 
   module _ (name : NamedParts) (out : List ℕ) (m : Map) where

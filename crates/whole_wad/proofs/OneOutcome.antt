@@ -33,7 +33,7 @@ one_made m by one other h k =
     λ i. record { table = same.table i; listed = same.listed i }
 
 -- a map that gets a table has no flaw
-no_flaw : (m : Map) (s : Status) → HasClosedFaces m → IsFlawOf m s → ⊥
+pub no_flaw : (m : Map) (s : Status) → HasClosedFaces m → IsFlawOf m s → ⊥
 no_flaw m (status.BadMap (flaw.Line fault)) sound h = not_sound m fault h sound.ends
 no_flaw m (status.BadMap (flaw.Open side)) sound h = h.1.against (sound.closed side)
 no_flaw m s sound h = h

@@ -5,20 +5,14 @@ use Rattle.std.proofs.Math.Nat.{div-lt_iff_lt-mul, mod-lt}
 use Rattle.std.proofs.lemmas.List.{ext_get_or, get_or_past}
 use Rattle.std.proofs.lemmas.Nat.{div-add-mod'}
 use Rattle.std.proofs.lemmas.Nat.Bits.{bit_at-lt, bit_at-zero, same_from_bits_below}
-use Rattle.sight_names.specs.declared.names.Ask.{Ask}
-use Rattle.sight_names.specs.declared.names.Ask.TheVariants.{Of as AskOf, Full as AskFull, Enough}
 use Rattle.sight_names.specs.declared.names.Budget.{Budget}
-use Rattle.sight_names.specs.declared.names.Budget.TheVariants.{Of}
 use Rattle.sight_names.specs.declared.names.Method.{Method}
 use Rattle.sight_names.specs.declared.names.Method.TheVariants as method
 use Rattle.sight_names.specs.declared.names.Pair.{Pair}
-use Rattle.sight_names.specs.declared.names.Triangle.{Triangle}
-use Rattle.sight_names.specs.Enough.{IsBudgetOf, enough_of}
 use Rattle.sight_names.specs.Groups.{IsListedByGroups}
 use Rattle.sight_names.specs.Map.{Map}
 use Rattle.sight_names.specs.Table.{table_bit}
 use Rattle.sight_names.proofs.Lists.{same_ascending}
-use Rattle.sight_names.proofs.OneMesh.{one_mesh}
 use Rattle.reject_bits.specs.Parts.{IsWhole, Rejects, TableParts}
 use Rattle.cert_format.specs.declared.cert_groups.cert.AnyCert.TheVariants.{One, Two}
 use Rattle.cert_format.proofs.CertGroups.PartLaws.{none_ascend}
@@ -29,6 +23,7 @@ use Rattle.sight_names.specs.Order.{Ascends, PairBefore}
 use Rattle.whole_wad.specs.declared.building.Built.{Built}
 use Rattle.whole_wad.specs.Built.{AreBytes, DecidedBy, HaveOneTable, IsBuiltOf, ask_of}
 use Rattle.math_base.proofs.Numbers.{same_bit, below_or_not}
+use Rattle.group_job.proofs.OneWalk.{same_budget}
 
 -- ---- numbers
 
@@ -67,18 +62,11 @@ not_both_before p q (inr h) (inl k) = let e = h.0 in omega (arith, k)
 not_both_before p q (inr h) (inr k) = let e = h.1 in let f = k.1 in omega arith
 
 -- a bit past those of the pairs is clear
-spare_clear : (n : ℕ) (t : TableParts) → t.n ≡ n → IsWhole t → (k : ℕ) → n * n ≤ k → table_bit t.bytes k ≡ 0
+pub spare_clear : (n : ℕ) (t : TableParts) → t.n ≡ n → IsWhole t → (k : ℕ) → n * n ≤ k → table_bit t.bytes k ≡ 0
 spare_clear n t sectors whole k h = elim (below_or_not k (8 * length t.bytes)) as (λ _. table_bit t.bytes k ≡ 0) [
   | inl lt ↦ whole.no_spare k (subst (λ (x : ℕ). x * x ≤ k) (sym sectors) h) lt
   | inr past ↦ ap (λ (x : ℕ). bit_at x (k % 8)) (get_or_past t.bytes (k / 8) 0 (past_bytes (length t.bytes) k past)) ∙ bit_at-zero (k % 8)
 ]
-
--- ---- the budget that is asked for is one, since the mesh is
-
-one_budget : (m : Map) (ask : Ask) (b c : Budget) → IsBudgetOf m ask b → IsBudgetOf m ask c → b ≡ c
-one_budget m (AskOf n) b c h k = h ∙ sym k
-one_budget m AskFull b c h k = h ∙ sym k
-one_budget m Enough b c h k = h.2 ∙ ap (λ (ts : List Triangle). Of (enough_of m ts)) (one_mesh m h.0 k.0 h.1 k.1) ∙ sym k.2
 
 -- ---- two builds
 
@@ -94,7 +82,7 @@ list_ascends m method.Exact built is = subst (λ (ps : List Pair). Ascends PairB
 
 module _ (m : Map) (by : Method) (one other : Built) (is_one : IsBuiltOf m by one) (is_other : IsBuiltOf m by other) where
   budgets : is_one.decided.budget ≡ is_other.decided.budget
-  budgets = one_budget m (ask_of by) is_one.decided.budget is_other.decided.budget is_one.decided.is_budget is_other.decided.is_budget
+  budgets = same_budget m (ask_of by) is_one.decided.budget is_other.decided.budget is_one.decided.is_budget is_other.decided.is_budget
 
   listed_too : (q : Pair) → Contains one.listed q → Contains other.listed q
   listed_too q c =

@@ -27,7 +27,7 @@ pub struct TreeTasks<'a> {
 }
 
 /// The group with this number, of so many.
-fn source_of(count: u16, number: usize) -> u16
+pub fn source_of(count: u16, number: usize) -> u16
     requires { number < count }
     ensures { result ≡ number }
 {

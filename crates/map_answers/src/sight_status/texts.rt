@@ -228,7 +228,8 @@ fn push_texts(alloc: Global, line: &mut String, fault: TextFault) -> Result<(), 
     }
 }
 
-fn push_clash(alloc: Global, line: &mut String, fault: LineFault) -> Result<(), AllocError>
+/// Adds the words of two lines that share more than an end of both.
+pub fn push_clash(alloc: Global, line: &mut String, fault: LineFault) -> Result<(), AllocError>
     ensures { OnOk result (string_bytes line.new ≡ string_bytes line.old ++ clash_words fault) }
 {
     match fault {

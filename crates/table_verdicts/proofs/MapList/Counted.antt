@@ -1,5 +1,6 @@
 -- The set bits of a REJECT are those that its table has alone beside the clear one.
 use Rattle.std.proofs.Common.{◌≡◌, ℕ, zero, suc, ◌+◌, ◌*◌, ◌<◌, ◌≤◌, ◌↔◌, Bool, true, false, List, length, Option, Some, None, refl, sym, ap, ◌∙◌, subst, arith}
+use Rattle.std.specs.Cmp.{both_ways}
 use Rattle.std.specs.Prelude.{IsTrue, if◌then◌else◌, nat_lt, replicate}
 use Rattle.std.specs.List.{count_by, range_with_len, sum_by}
 use Rattle.std.proofs.lemmas.Bool.Decides.{nat_tests}
@@ -20,11 +21,6 @@ pub set_counted : (own clear : TableParts) (k count : ℕ) → clear.bytes ≡ r
 set_counted own clear k count e h = count_so own.n (SetsAlone own clear) (Rejects own) (λ a b la lb. ((λ alone. alone.0), (λ set. (set, clear_has_none clear k e a b)))) count h
 
 -- ---- two tests that tell one kind of pairs
-
-same_told : (s t : Bool) → (IsTrue s → IsTrue t) → (IsTrue t → IsTrue s) → s ≡ t
-same_told true t f g = sym (f refl)
-same_told false true f g = g refl
-same_told false false f g = refl
 
 sums_alike : (f g : ℕ → ℕ) (a n : ℕ) → ((k : ℕ) → k < n → f (a + k) ≡ g (a + k)) → sum_by f (range_with_len a n) ≡ sum_by g (range_with_len a n)
 sums_alike f g a zero h = refl
@@ -70,7 +66,7 @@ module _ (n : ℕ) (reject : List ℕ) where
     set_are count h =
         let k : IsCountOf n (Rejects own) count = subst (λ (m : ℕ). IsCountOf m (Rejects own) count) front.sectors h in
         let same : (a b : ℕ) → a < n → b < n → k.test a b ≡ is_set n reject a b =
-        λ a b la lb. same_told (k.test a b) (is_set n reject a b) (λ told. (tells a b la lb).0 ((k.tells a b la lb).0 told)) (λ told. (k.tells a b la lb).1 ((tells a b la lb).1 told)) in
+        λ a b la lb. both_ways (k.test a b) (is_set n reject a b) (λ told. (tells a b la lb).0 ((k.tells a b la lb).0 told)) (λ told. (k.tells a b la lb).1 ((tells a b la lb).1 told)) in
         ap (λ (x : ℕ). Some x) (k.passed ∙ pairs_alike k.test (is_set n reject) n same) ∙ sym (ap counted_where (not_less (length reject) (table_len n) front.enough))
 
   pub none_are : length reject < table_len n → None ≡ set_bits n reject

@@ -1,8 +1,8 @@
 //! How great a map is, and what its REJECT holds.
 
-ghost use Rattle.std.specs.Prelude.{◌≡◌, IfOk, length, filter_map};
+ghost use Rattle.std.specs.Prelude.{◌≡◌, IfOk, length};
 ghost use Rattle.sight_names.specs.Map.{map_of};
-ghost use Rattle.sight_names.specs.Points.{lines_of, points_of};
+ghost use Rattle.sight_names.specs.Points.{points_of};
 ghost use Rattle.table_compare.specs.Counts.{IsCountOf};
 ghost use Rattle.reject_bits.specs.Parts.{Rejects};
 ghost use Rattle.whole_wad.specs.Rejects.{table_len};
@@ -10,30 +10,11 @@ ghost use Rattle.table_verdicts.specs.MapList.Entry.{set_bits, sizes_of};
 
 use crate::map_list::entry::{ListedFormat, MapSizes};
 use crate::own::{OwnTable, own_table};
+use map_answers::count_lines;
 use reject_bits::Table;
-use sight_names::{Line, Memory, Plan};
+use sight_names::{Memory, Plan};
 use std::alloc::Global;
 use table_compare::compare;
-
-/// How many of the records are lines.
-fn count_of(lines: &[Option<Line>]) -> u64
-    ensures { result ≡ length (filter_map (λ line. line) lines.now) }
-{
-    let mut count = 0;
-    for line in lines {
-        if line.is_some() {
-            count += 1;
-        }
-    }
-    count
-}
-
-/// How many lines the map has.
-fn count_lines(plan: &Plan) -> u64
-    ensures { result ≡ length (lines_of (map_of plan.now)) }
-{
-    count_of(plan.lines())
-}
 
 /// How many points the map has.
 fn count_points(plan: &Plan) -> u64

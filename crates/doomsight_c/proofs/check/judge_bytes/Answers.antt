@@ -1,7 +1,7 @@
 use Rattle.std.proofs.Common.{[]}
 use Rattle.cert_format.specs.Sizes.{sizes_of}
 use Rattle.certificates.specs.Reading.{certificate_at}
-use Rattle.doomsight_c.proofs.Judging.{promised}
+use Rattle.any_judge.proofs.CertFile.Promises.{promised}
 use Rattle.doomsight_c.proofs.check.judge_bytes.Goals as goal
 
 pub returns : goal.returns

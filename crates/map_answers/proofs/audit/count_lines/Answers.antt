@@ -1,7 +1,7 @@
 use Rattle.std.proofs.Common.{sym, ◌∙◌, ap, length, filter_map}
 use Rattle.sight_names.specs.Map.{looked_up}
 use Rattle.map_answers.proofs.Sounds.{same_count}
-use Rattle.table_verdicts.proofs.map_list.sizes.count_lines.Goals as goal
+use Rattle.map_answers.proofs.audit.count_lines.Goals as goal
 
 pub returns : goal.returns
 returns c =
