@@ -1,4 +1,4 @@
-use Rattle.std.proofs.Common.{false, true, sym, ◌∙◌, arith}
+use Rattle.std.proofs.Common.{sym, ◌∙◌, arith}
 use Rattle.std.proofs.lemmas.Bool.{false≢true}
 use Rattle.exact_checker.specs.Owning.{owning_of, RanksFrom}
 use Rattle.exact_checker.proofs.Owned.{between_none, between_more, between_same}

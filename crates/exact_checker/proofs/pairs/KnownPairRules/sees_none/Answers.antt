@@ -1,4 +1,4 @@
-use Rattle.std.proofs.Common.{◌≡◌, ℕ, List, [], sym, ◌∙◌, subst, arith}
+use Rattle.std.proofs.Common.{ℕ, List, [], sym, ◌∙◌, subst, arith}
 use Rattle.std.proofs.lemmas.Option.{same_Some}
 use Rattle.cert_checker.specs.BlindRows.{HasNoGroup}
 use Rattle.cert_checker.specs.Pairs.{AreSectorsJoined, AreSomeJoined}

@@ -1,4 +1,4 @@
-use Rattle.std.proofs.Common.{◌≡◌, ℕ, List, Option, subst}
+use Rattle.std.proofs.Common.{ℕ, List, Option, subst}
 use Rattle.gate_floods.specs.RowJudge.Masks.{rows_of}
 use Rattle.exact_checker.specs.Owning.{owning_of}
 use Rattle.exact_checker.specs.ExactWorkers.Found.{IsFirstFound}
