@@ -12,6 +12,8 @@ mod crews;
 mod grounds;
 pub mod meeting;
 #[cfg(test)]
+mod meshes;
+#[cfg(test)]
 mod threads;
 #[cfg(test)]
 mod walks;

@@ -18,7 +18,7 @@ use std::alloc::Global;
 use task_crew::Tasks;
 
 /// How many points one task looks at.
-pub const PART: usize = 128;
+pub const PART: usize = 256;
 
 /// In how many parts so many points come.
 pub fn parts_of(count: usize) -> usize
