@@ -26,7 +26,7 @@ WIDTH = 120
 # What the lists are of: their heads, and whose definitions they begin with; those of the laws follow by themselves.
 RIGHT = ("What a right table is", ["run_laws/Headline.IsRightTable"])
 FOUND = ("Which map a name finds in the bytes of a WAD, and its REJECT",
-         ["sight_run/Reading.found_of", "sight_run/Check.reject_of"])
+         ["sight_run/Reading.found_of", "sight_run/Check.reject_bytes"])
 WORDS = ("Which order words are", ["sight_run/Words.asked_of"])
 HEADS = {
     "CheckedIsRight": "For `check`, which pairs the certificate lists that the bytes of FILE spell",

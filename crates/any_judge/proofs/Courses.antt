@@ -9,20 +9,20 @@ use Rattle.sight_names.specs.Plan.{PlanParts}
 use Rattle.reject_bits.specs.Parts.{TableParts}
 use Rattle.cert_format.specs.declared.cert.Sizes.{Sizes}
 use Rattle.cert_format.specs.Grammar.{AreSmall}
-use Rattle.cert_format.specs.Sizes.{sizes_of}
+use Rattle.cert_format.specs.Sizes.{sizes_of_plan}
 use Rattle.cert_format.specs.CertGroups.Reading.{any_at}
 use Rattle.certificates.specs.declared.certificate.Certificate.{Certificate}
 use Rattle.certificates.specs.CertExact.Reading.{exact_at}
-use Rattle.certificates.specs.CertParts.Beginning.{IsBegun as IsBegunListing}
+use Rattle.certificates.specs.CertParts.Beginning.{IsListingBegun as IsBegunListing}
 use Rattle.certificates.specs.CertParts.Left.{ReaderState as StateOfListing}
 use Rattle.certificates.specs.CertParts.Parts.{any_parts_of, reading_any_parts}
-use Rattle.certificates.specs.ExactParts.Beginning.{IsBegun as IsBegunExact}
+use Rattle.certificates.specs.ExactParts.Beginning.{IsExactBegun as IsBegunExact}
 use Rattle.certificates.specs.ExactParts.Left.{ReaderState as StateOfExact}
 use Rattle.certificates.specs.ExactParts.Parts.{reading_three_parts, three_parts_of}
 use Rattle.certificates.specs.Reading.{certificate_at, exact_of, listing_of}
 use Rattle.cert_judge.specs.declared.intake.Intake.{Intake as IntakeOfListing}
 use Rattle.cert_judge.specs.declared.judged.Judged.TheVariants as judged
-use Rattle.cert_judge.specs.Intake.{AreBytes, AreRefused as AreRefusedListing, HasTaken as HasTakenListing, IsGoingOn as IsGoingOnListing}
+use Rattle.cert_judge.specs.Intake.{AreBytes, AreRefusedListing, HasTakenListing, IsGoingOn as IsGoingOnListing}
 use Rattle.cert_judge.specs.Judged.{JudgedBy}
 use Rattle.cert_judge.specs.Judging.{HasHeard as HasHeardListing}
 use Rattle.cert_judge.specs.Version.{Groups as GroupsOfListing}
@@ -34,7 +34,7 @@ use Rattle.any_judge.specs.declared.opening.Opening.{Opening}
 use Rattle.any_judge.specs.declared.versed.Versed.TheVariants as versed
 use Rattle.any_judge.specs.Course.{IsAsked, IsAskedExact, IsAskedListing, IsOpening}
 use Rattle.any_judge.specs.ExactJudge.Heard.{Groups as GroupsOfExact}
-use Rattle.any_judge.specs.ExactJudge.Intake.{AreRefused as AreRefusedExact, HasTaken as HasTakenExact, IsGoingOn as IsGoingOnExact}
+use Rattle.any_judge.specs.ExactJudge.Intake.{AreRefusedExact, HasTakenExact, IsGoingOn as IsGoingOnExact}
 use Rattle.any_judge.specs.ExactJudge.Judging.{HasHeard as HasHeardExact}
 use Rattle.any_judge.specs.Judged.{IsVerdictOf}
 use Rattle.any_judge.specs.Version.{BeginsThree}
@@ -44,30 +44,30 @@ use Rattle.any_judge.proofs.Versions.{begins_on, begins_only, reads_exact, reads
 
 -- ---- what bytes begin with
 
-module _ (p : PlanParts) (t : TableParts) (bytes rest : List ℕ) (fit : AreBytes bytes) (sizes : Sizes) (same : sizes ≡ sizes_of p) (small : AreSmall sizes) where
+module _ (p : PlanParts) (t : TableParts) (bytes rest : List ℕ) (fit : AreBytes bytes) (sizes : Sizes) (same : sizes ≡ sizes_of_plan p) (small : AreSmall sizes) where
   -- version and groups were read, and the reader of their parts goes on
   pub listing_goes_on : (groups : GroupsOfListing) (reader : StateOfListing) (k : IntakeOfListing) → IsBegunListing sizes bytes groups reader rest → HasHeardListing p t groups [] k.judging → k.reader ≡ reader → IsGoingOnListing p t bytes rest k
   listing_goes_on groups reader k begun heard is =
-      let b = subst (λ (r : StateOfListing). IsBegunListing (sizes_of p) bytes groups r rest) (sym is) (subst (λ (z : Sizes). IsBegunListing z bytes groups reader rest) same begun) in
+      let b = subst (λ (r : StateOfListing). IsBegunListing (sizes_of_plan p) bytes groups r rest) (sym is) (subst (λ (z : Sizes). IsBegunListing z bytes groups reader rest) same begun) in
       record { small = subst AreSmall same small; fit = fit; groups = groups; parts = []; heard = heard; given = b.given; left = b.parts }
 
   pub exact_goes_on : (groups : GroupsOfExact) (reader : StateOfExact) (k : IntakeOfExact) → IsBegunExact sizes bytes groups reader rest → HasHeardExact p t groups [] k.judging → k.reader ≡ reader → IsGoingOnExact p t bytes rest k
   exact_goes_on groups reader k begun heard is =
-      let b = subst (λ (r : StateOfExact). IsBegunExact (sizes_of p) bytes groups r rest) (sym is) (subst (λ (z : Sizes). IsBegunExact z bytes groups reader rest) same begun) in
+      let b = subst (λ (r : StateOfExact). IsBegunExact (sizes_of_plan p) bytes groups r rest) (sym is) (subst (λ (z : Sizes). IsBegunExact z bytes groups reader rest) same begun) in
       record { small = subst AreSmall same small; fit = fit; groups = groups; parts = []; heard = heard; given = b.given; left = b.parts }
 
 module _ (p : PlanParts) (bytes : List ℕ) (f : CertFault) where
   -- the fault of the parts is that of the certificate
-  listing_fault : ¬ BeginsThree bytes → reading_any_parts (sizes_of p) bytes ≡ Err f → certificate_at (sizes_of p) bytes ≡ Err f
-  listing_fault other e = reads_listing (sizes_of p) bytes other ∙ ap listing_of (fault_read any_parts_of (any_at (sizes_of p) bytes) f e)
+  listing_fault : ¬ BeginsThree bytes → reading_any_parts (sizes_of_plan p) bytes ≡ Err f → certificate_at (sizes_of_plan p) bytes ≡ Err f
+  listing_fault other e = reads_listing (sizes_of_plan p) bytes other ∙ ap listing_of (fault_read any_parts_of (any_at (sizes_of_plan p) bytes) f e)
 
-  exact_fault : BeginsThree bytes → reading_three_parts (sizes_of p) bytes ≡ Err f → certificate_at (sizes_of p) bytes ≡ Err f
-  exact_fault begins e = reads_exact (sizes_of p) bytes begins ∙ ap exact_of (fault_read three_parts_of (exact_at (sizes_of p) bytes) f e)
+  exact_fault : BeginsThree bytes → reading_three_parts (sizes_of_plan p) bytes ≡ Err f → certificate_at (sizes_of_plan p) bytes ≡ Err f
+  exact_fault begins e = reads_exact (sizes_of_plan p) bytes begins ∙ ap exact_of (fault_read three_parts_of (exact_at (sizes_of_plan p) bytes) f e)
 
-  pub unread : (t : TableParts) → certificate_at (sizes_of p) bytes ≡ Err f → JudgedBy (certificate_at (sizes_of p) bytes) (IsVerdictOf p t) (judged.Unread f)
+  pub unread : (t : TableParts) → certificate_at (sizes_of_plan p) bytes ≡ Err f → JudgedBy (certificate_at (sizes_of_plan p) bytes) (IsVerdictOf p t) (judged.Unread f)
   unread t e = subst (λ (r : Result Certificate CertFault). JudgedBy r (IsVerdictOf p t) (judged.Unread f)) (sym e) refl
 
-  pub refused_at_end : (t : TableParts) → AreRefused p bytes f → JudgedBy (certificate_at (sizes_of p) bytes) (IsVerdictOf p t) (judged.Unread f)
+  pub refused_at_end : (t : TableParts) → AreRefused p bytes f → JudgedBy (certificate_at (sizes_of_plan p) bytes) (IsVerdictOf p t) (judged.Unread f)
   refused_at_end t (inl (other, w)) = unread t (listing_fault other (refused_whole_listing p bytes f w))
   refused_at_end t (inr (begins, w)) = unread t (exact_fault begins (refused_whole_exact p bytes f w))
 
@@ -104,5 +104,5 @@ module _ (bytes piece : List ℕ) (enough : 6 ≤ length bytes) where
   other_on other = λ b. other (begins_only bytes piece enough b)
 
   pub refused_on : (p : PlanParts) (f : CertFault) → AreRefused p bytes f → AreRefused p (bytes ++ piece) f
-  refused_on p f (inl (other, w)) = inl (other_on other, λ more. ap (reading_any_parts (sizes_of p)) (append_assoc bytes piece more) ∙ w (piece ++ more))
-  refused_on p f (inr (begins, w)) = inr (begins_on bytes piece enough begins, λ more. ap (reading_three_parts (sizes_of p)) (append_assoc bytes piece more) ∙ w (piece ++ more))
+  refused_on p f (inl (other, w)) = inl (other_on other, λ more. ap (reading_any_parts (sizes_of_plan p)) (append_assoc bytes piece more) ∙ w (piece ++ more))
+  refused_on p f (inr (begins, w)) = inr (begins_on bytes piece enough begins, λ more. ap (reading_three_parts (sizes_of_plan p)) (append_assoc bytes piece more) ∙ w (piece ++ more))

@@ -7,7 +7,7 @@ use Rattle.std.proofs.lemmas.List.{append-nil, length-append, length-drop, take-
 use Rattle.sight_names.specs.declared.faults.CertFault.{CertFault}
 use Rattle.sight_names.specs.declared.faults.CertFault.TheVariants as faults
 use Rattle.cert_format.specs.declared.cert.Sizes.{Sizes}
-use Rattle.cert_format.specs.Reading.{◌>>=◌, magic, magic_at, number_at, passed}
+use Rattle.cert_format.specs.Reading.{◌>>=◌, cert_magic, magic_at, number_at, passed}
 use Rattle.cert_format.specs.CertGroups.Reading.{any_at}
 use Rattle.certificates.specs.CertExact.Reading.{exact_at, version_at}
 use Rattle.certificates.specs.Reading.{certificate_at, exact_of, listing_of, read_by}
@@ -25,7 +25,7 @@ abbrev told : Bool → Bool → List ℕ → List ℕ → Result (List ℕ) Cert
 told magical third mid rest = passed magical faults.BadMagic mid >>= (λ m. passed third faults.BadVersion rest)
 
 abbrev is_magic : List ℕ → Bool
-is_magic front = from_le_bytes w32 (take 4 front) == magic
+is_magic front = from_le_bytes w32 (take 4 front) == cert_magic
 
 abbrev is_third : List ℕ → Bool
 is_third front = from_le_bytes w16 (take 2 (drop 4 front)) == 3

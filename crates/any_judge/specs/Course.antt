@@ -3,12 +3,12 @@ use Rattle.std.specs.Prelude.{◌≡◌, ℕ, ◌+◌, ◌<◌, ◌≤◌, ◌^�
 use Rattle.sight_names.specs.declared.faults.CertFault.TheVariants as faults
 use Rattle.sight_names.specs.Plan.{PlanParts}
 use Rattle.reject_bits.specs.Parts.{TableParts}
-use Rattle.cert_format.specs.Sizes.{sizes_of}
+use Rattle.cert_format.specs.Sizes.{sizes_of_plan}
 use Rattle.certificates.specs.Reading.{certificate_at}
 use Rattle.certificates.specs.CertParts.Parts.{reading_any_parts}
 use Rattle.certificates.specs.ExactParts.Parts.{reading_three_parts}
-use Rattle.cert_judge.specs.Intake.{AreBytes, AreRefused as AreRefusedListing, HasTaken as HasTakenListing}
-use Rattle.any_judge.specs.ExactJudge.Intake.{AreRefused as AreRefusedExact, HasTaken as HasTakenExact}
+use Rattle.cert_judge.specs.Intake.{AreBytes, AreRefusedListing, HasTakenListing}
+use Rattle.any_judge.specs.ExactJudge.Intake.{AreRefusedExact, HasTakenExact}
 use Rattle.any_judge.specs.declared.course.Course.{Course}
 use Rattle.any_judge.specs.declared.course.Course.TheVariants as course
 use Rattle.any_judge.specs.declared.opening.Asked.{Asked}
@@ -26,19 +26,19 @@ pub record IsOpening (p : PlanParts) (t : TableParts) (bytes : List ℕ) (o : Op
 
 -- the bytes end before the first part begins; or no certificate begins so; or all of them were taken
 abbrev pub IsAsked : PlanParts → TableParts → List ℕ → Asked → Type 0
-IsAsked p t bytes (asked.Cut at) = certificate_at (sizes_of p) bytes ≡ Err (faults.Short at)
+IsAsked p t bytes (asked.Cut at) = certificate_at (sizes_of_plan p) bytes ≡ Err (faults.Short at)
 IsAsked p t bytes (asked.Told v) = HasTaken p t bytes v
 
 -- the same of bytes that are read as of version 1 or 2
 abbrev pub IsAskedListing : PlanParts → TableParts → List ℕ → Asked → Type 0
-IsAskedListing p t bytes (asked.Cut at) = reading_any_parts (sizes_of p) bytes ≡ Err (faults.Short at)
+IsAskedListing p t bytes (asked.Cut at) = reading_any_parts (sizes_of_plan p) bytes ≡ Err (faults.Short at)
 IsAskedListing p t bytes (asked.Told (versed.Refused f)) = AreRefusedListing p bytes f
 IsAskedListing p t bytes (asked.Told (versed.Listing k)) = HasTakenListing p t bytes k
 IsAskedListing p t bytes (asked.Told (versed.Exact k)) = ⊥
 
 -- .. or of version 3
 abbrev pub IsAskedExact : PlanParts → TableParts → List ℕ → Asked → Type 0
-IsAskedExact p t bytes (asked.Cut at) = reading_three_parts (sizes_of p) bytes ≡ Err (faults.Short at)
+IsAskedExact p t bytes (asked.Cut at) = reading_three_parts (sizes_of_plan p) bytes ≡ Err (faults.Short at)
 IsAskedExact p t bytes (asked.Told (versed.Refused f)) = AreRefusedExact p bytes f
 IsAskedExact p t bytes (asked.Told (versed.Listing k)) = ⊥
 IsAskedExact p t bytes (asked.Told (versed.Exact k)) = HasTakenExact p t bytes k

@@ -4,8 +4,8 @@ use Rattle.reject_bits.specs.Parts.{TableParts}
 use Rattle.group_checker.specs.declared.verdict.AnyVerdict.{AnyVerdict}
 use Rattle.group_checker.specs.Judged.{JudgesAny}
 use Rattle.exact_checker.specs.Judged.{JudgesThree}
-use Rattle.cert_judge.specs.Judged.{IsVerdictOf as IsVerdictOfListing}
-use Rattle.any_judge.specs.ExactJudge.Judged.{IsVerdictOf as IsVerdictOfExact}
+use Rattle.cert_judge.specs.Judged.{IsVerdictOfListing}
+use Rattle.any_judge.specs.ExactJudge.Judged.{IsVerdictOfExact}
 use Rattle.certificates.specs.declared.certificate.Certificate.{Certificate}
 use Rattle.certificates.specs.declared.certificate.Certificate.TheVariants.{Listing, Exact}
 

@@ -3,8 +3,8 @@ use Rattle.std.specs.Prelude.{◌≡◌, ℕ, ◌+◌, ◌<◌, ◌^◌, ◌⊎�
 use Rattle.sight_names.specs.declared.faults.CertFault.{CertFault}
 use Rattle.sight_names.specs.Plan.{PlanParts}
 use Rattle.reject_bits.specs.Parts.{TableParts}
-use Rattle.cert_judge.specs.Intake.{AreRefused as AreRefusedListing, HasTaken as HasTakenListing}
-use Rattle.any_judge.specs.ExactJudge.Intake.{AreRefused as AreRefusedExact, HasTaken as HasTakenExact}
+use Rattle.cert_judge.specs.Intake.{AreRefusedListing, HasTakenListing}
+use Rattle.any_judge.specs.ExactJudge.Intake.{AreRefusedExact, HasTakenExact}
 use Rattle.any_judge.specs.declared.versed.Versed.{Versed}
 use Rattle.any_judge.specs.declared.versed.Versed.TheVariants as versed
 use Rattle.any_judge.specs.Version.{BeginsThree}

@@ -3,7 +3,7 @@
 ghost use Rattle.std.specs.Prelude.{ℕ, List, [], ◌++◌, IfOk};
 ghost use Rattle.sight_names.specs.Plan.{PlanParts, IsPlan};
 ghost use Rattle.reject_bits.specs.Parts.{TableParts};
-ghost use Rattle.cert_format.specs.Sizes.{sizes_of};
+ghost use Rattle.cert_format.specs.Sizes.{sizes_of_plan};
 ghost use Rattle.cert_judge.specs.Judged.{JudgedBy};
 ghost use Rattle.certificates.specs.Reading.{certificate_at};
 ghost use Rattle.any_judge.specs.Judged.{IsVerdictOf};
@@ -52,7 +52,7 @@ impl<'a> Course<'a> {
     /// What comes of all bytes. Too few to tell the version are judged as those of version 1 or 2 are.
     pub fn end(self) -> Result<Judged, Memory>
         requires { HasCourse self }
-        ensures { (p : PlanParts) (t : TableParts) (bytes : List ℕ) → IsOnCourse p t bytes self.entry → IfOk result (JudgedBy (certificate_at (sizes_of p) bytes) (IsVerdictOf p t)) }
+        ensures { (p : PlanParts) (t : TableParts) (bytes : List ℕ) → IsOnCourse p t bytes self.entry → IfOk result (JudgedBy (certificate_at (sizes_of_plan p) bytes) (IsVerdictOf p t)) }
     {
         match self {
             Course::Told(versed) => versed.end(),

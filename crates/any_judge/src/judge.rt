@@ -5,7 +5,7 @@ ghost use Rattle.sight_names.specs.Map.{map_of};
 ghost use Rattle.sight_names.specs.Plan.{PlanParts};
 ghost use Rattle.sight_names.specs.Sound.{LinesMeetAtEnds};
 ghost use Rattle.reject_bits.specs.Parts.{TableParts};
-ghost use Rattle.cert_format.specs.Sizes.{sizes_of};
+ghost use Rattle.cert_format.specs.Sizes.{sizes_of_plan};
 ghost use Rattle.certificates.specs.Reading.{certificate_at};
 ghost use Rattle.any_judge.specs.Accepted.{IsAccepted, TellsSight};
 ghost use Rattle.any_judge.specs.Judged.{Judges};
@@ -66,9 +66,9 @@ impl<'a> Judge<'a> {
     pub fn end(self) -> Result<Judged, Memory>
         requires { IsFed self }
         ensures spent { IsSpent self.entry → IsErr result }
-        ensures exact { (p : PlanParts) (t : TableParts) (bytes : List ℕ) → HasBeenFed p t bytes self.entry → IfOk result (JudgedBy (certificate_at (sizes_of p) bytes) (Judges p t)) }
-        ensures accepted { (p : PlanParts) (t : TableParts) (bytes : List ℕ) → HasBeenFed p t bytes self.entry → IfOk result (JudgedBy (certificate_at (sizes_of p) bytes) (λ c v. IsYesAny v ↔ IsAccepted (map_of p) t.bytes c)) }
-        ensures sight { (p : PlanParts) (t : TableParts) (bytes : List ℕ) → HasBeenFed p t bytes self.entry → LinesMeetAtEnds (map_of p) → IfOk result (JudgedBy (certificate_at (sizes_of p) bytes) (λ c v. IsYesAny v → TellsSight (map_of p) t c)) }
+        ensures exact { (p : PlanParts) (t : TableParts) (bytes : List ℕ) → HasBeenFed p t bytes self.entry → IfOk result (JudgedBy (certificate_at (sizes_of_plan p) bytes) (Judges p t)) }
+        ensures accepted { (p : PlanParts) (t : TableParts) (bytes : List ℕ) → HasBeenFed p t bytes self.entry → IfOk result (JudgedBy (certificate_at (sizes_of_plan p) bytes) (λ c v. IsYesAny v ↔ IsAccepted (map_of p) t.bytes c)) }
+        ensures sight { (p : PlanParts) (t : TableParts) (bytes : List ℕ) → HasBeenFed p t bytes self.entry → LinesMeetAtEnds (map_of p) → IfOk result (JudgedBy (certificate_at (sizes_of_plan p) bytes) (λ c v. IsYesAny v → TellsSight (map_of p) t c)) }
     {
         if let Some(memory) = self.spent {
             return Err(memory);

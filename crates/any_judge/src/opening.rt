@@ -4,7 +4,7 @@ ghost use Rattle.std.specs.Prelude.{◌≡◌, ◌≤◌, ℕ, List, [], ◌++�
 ghost use Rattle.sight_names.specs.Plan.{PlanParts, IsPlan};
 ghost use Rattle.reject_bits.specs.Parts.{TableParts};
 ghost use Rattle.cert_format.specs.Grammar.{AreSmall};
-ghost use Rattle.cert_format.specs.Sizes.{sizes_of};
+ghost use Rattle.cert_format.specs.Sizes.{sizes_of_plan};
 ghost use Rattle.any_judge.specs.Course.{IsAsked, IsAskedExact, IsAskedListing, IsOpening};
 
 use crate::exact_judge;
@@ -25,7 +25,7 @@ fn see_sizes(sizes: Sizes)
 
 /// The sizes of the map that the certificate is to be about.
 fn sizes(plan: &Plan) -> Sizes
-    ensures sizes { result ≡ sizes_of plan.now }
+    ensures sizes { result ≡ sizes_of_plan plan.now }
     ensures small { AreSmall result }
     ensures plan { IsPlan plan.now }
 {

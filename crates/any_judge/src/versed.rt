@@ -3,7 +3,7 @@
 ghost use Rattle.std.specs.Prelude.{◌↔◌, ℕ, ◌≤◌, ◌++◌, List, IfOk, IsTrue, length};
 ghost use Rattle.sight_names.specs.Plan.{PlanParts};
 ghost use Rattle.reject_bits.specs.Parts.{TableParts};
-ghost use Rattle.cert_format.specs.Sizes.{sizes_of};
+ghost use Rattle.cert_format.specs.Sizes.{sizes_of_plan};
 ghost use Rattle.cert_judge.specs.Judged.{JudgedBy};
 ghost use Rattle.certificates.specs.Reading.{certificate_at};
 ghost use Rattle.any_judge.specs.Judged.{IsVerdictOf};
@@ -47,7 +47,7 @@ impl<'a> Versed<'a> {
     /// What comes of all bytes.
     pub fn end(self) -> Result<Judged, Memory>
         requires { IsFilled self }
-        ensures { (p : PlanParts) (t : TableParts) (bytes : List ℕ) → HasTaken p t bytes self.entry → IfOk result (JudgedBy (certificate_at (sizes_of p) bytes) (IsVerdictOf p t)) }
+        ensures { (p : PlanParts) (t : TableParts) (bytes : List ℕ) → HasTaken p t bytes self.entry → IfOk result (JudgedBy (certificate_at (sizes_of_plan p) bytes) (IsVerdictOf p t)) }
     {
         match self {
             Versed::Refused(fault) => Ok(Judged::Unread(fault)),

@@ -3,8 +3,8 @@
 ghost use Rattle.std.specs.Prelude.{◌≡◌, ◌↔◌, IfOk};
 ghost use Rattle.sight_names.specs.Map.{map_of};
 ghost use Rattle.sight_names.specs.Sound.{LinesMeetAtEnds};
-ghost use Rattle.cert_format.specs.Sizes.{sizes_of as sizes_of_plan};
-ghost use Rattle.certificates.specs.Grammar.{IsInOrder, sizes_of};
+ghost use Rattle.cert_format.specs.Sizes.{sizes_of_plan};
+ghost use Rattle.certificates.specs.Grammar.{IsInOrder, sizes_of_certificate};
 ghost use Rattle.group_checker.specs.Judged.{IsYesAny};
 ghost use Rattle.any_judge.specs.Accepted.{IsAccepted, TellsSight};
 ghost use Rattle.any_judge.specs.Judged.{Judges};
@@ -29,7 +29,7 @@ pub fn check(
 ) -> Result<AnyVerdict, Memory>
     requires audited { LinesMeetAtEnds (map_of plan.now) }
     requires table { table.now.n ≡ plan.now.sectors }
-    requires sizes { sizes_of cert.now ≡ sizes_of_plan plan.now }
+    requires sizes { sizes_of_certificate cert.now ≡ sizes_of_plan plan.now }
     requires in_order { IsInOrder cert.now }
     ensures exact { IfOk result (Judges plan.now table.now cert.now) }
     ensures accepted { IfOk result (λ v. IsYesAny v ↔ IsAccepted (map_of plan.now) table.now.bytes cert.now) }
@@ -51,7 +51,7 @@ pub fn check_par<R: Threads + Sync>(
 ) -> Result<AnyVerdict, Memory>
     requires audited { LinesMeetAtEnds (map_of plan.now) }
     requires table { table.now.n ≡ plan.now.sectors }
-    requires sizes { sizes_of cert.now ≡ sizes_of_plan plan.now }
+    requires sizes { sizes_of_certificate cert.now ≡ sizes_of_plan plan.now }
     requires in_order { IsInOrder cert.now }
     ensures exact { IfOk result (Judges plan.now table.now cert.now) }
     ensures accepted { IfOk result (λ v. IsYesAny v ↔ IsAccepted (map_of plan.now) table.now.bytes cert.now) }

@@ -10,7 +10,7 @@ use Rattle.sight_names.specs.Splitting.{EndPoints, SplitsEnds, IsSplittable, end
 use Rattle.geom_exact.specs.declared.extreme_lines.cut.Cut.{Cut}
 use Rattle.geom_exact.proofs.ExtremeLines.EndsLemmas.{left_place, right_place}
 use Rattle.block_evidence.specs.declared.Evidence.{Evidence}
-use Rattle.block_evidence.specs.Stuck.{AreStuck, Blocks, end_codes}
+use Rattle.block_evidence.specs.Stuck.{AreStuck, BlocksEnds, end_codes}
 use Rattle.block_evidence.specs.Parted.{PartsEnd, PartsEnds}
 use Rattle.block_evidence.proofs.Means.{parted_not_stuck}
 use Rattle.math_base.proofs.Options.{some_is_same, none_is_not_some}
@@ -61,5 +61,5 @@ ends_parted a b c es [] h = tt
 ends_parted a b c es (code ∷ codes) h = parted_by a b c es code (filter_map (end_of es) codes) (end_of es code) h refl (ends_parted a b c es codes h)
 
 -- stuck ends of portals show that no line splits the portals
-pub blocked_no_line : (es : List EndPoints) (e : Evidence) → Blocks es e → ¬ IsSplittable es
+pub blocked_no_line : (es : List EndPoints) (e : Evidence) → BlocksEnds es e → ¬ IsSplittable es
 blocked_no_line es e b (x, y, z, h) = parted_not_stuck (filter_map (end_of es) (end_codes e)) (x, y, z, ends_parted x y z es (end_codes e) h) b.stuck

@@ -11,7 +11,7 @@ use Rattle.sight_names.specs.declared.names.EndAt.{EndAt}
 use Rattle.geom_exact.specs.Formulas.{turn_of}
 use Rattle.geom_exact.proofs.SegmentLemmas.{four_turns, same_meeting_x, same_meeting_y}
 use Rattle.block_evidence.specs.Stuck.{HullsMeet, AreStuck, left_ends, right_ends}
-use Rattle.block_evidence.specs.SignTests.{AreWeights, AreOpposite, IsBetween}
+use Rattle.block_evidence.specs.SignTests.{AreWeights, AreOpposite, HasZeroBetween}
 use Rattle.block_evidence.proofs.Means.{AsMean, means_meet, sum_cons}
 use Rattle.math_base.proofs.Small.{nonneg_of_nonpos, some_of_sum}
 
@@ -104,7 +104,7 @@ down_ring : (a b c d p q r s : ℤ) → c *ℤ s -ℤ d *ℤ r ≡ b *ℤ p -ℤ
 down_ring a b c d p q r s h = combine1 (pos 1) h (by_ring (a ∷ b ∷ c ∷ d ∷ p ∷ q ∷ r ∷ s ∷ []) _ _ (search quoting depth 60 fits 200000) (search quoting depth 60 fits 200000) tt)
 
 -- q is on the left of the line from r to s, p on its right
-pub crosses_up : (p q r s : Pt) → turn_of r s p <ℤ turn_of r s q → IsBetween (turn_of r s p) (turn_of r s q) → IsBetween (turn_of p q s) (turn_of p q r) → HullsMeet (p ∷ q ∷ []) (r ∷ s ∷ [])
+pub crosses_up : (p q r s : Pt) → turn_of r s p <ℤ turn_of r s q → HasZeroBetween (turn_of r s p) (turn_of r s q) → HasZeroBetween (turn_of p q s) (turn_of p q r) → HullsMeet (p ∷ q ∷ []) (r ∷ s ∷ [])
 crosses_up p q r s h i j = crossing_meets p q r s (turn_of r s q) (neg_ℤ (turn_of r s p)) (neg_ℤ (turn_of p q s)) (turn_of p q r) (record {
   first = i.high;
   second = nonneg_of_nonpos (turn_of r s p) i.low;
@@ -123,7 +123,7 @@ crosses_up p q r s h i j = crossing_meets p q r s (turn_of r s q) (neg_ℤ (turn
     same a b c d h = omega (arith, ints)
 
 -- the other way
-pub crosses_down : (p q r s : Pt) → turn_of r s q <ℤ turn_of r s p → IsBetween (turn_of r s q) (turn_of r s p) → IsBetween (turn_of p q r) (turn_of p q s) → HullsMeet (p ∷ q ∷ []) (r ∷ s ∷ [])
+pub crosses_down : (p q r s : Pt) → turn_of r s q <ℤ turn_of r s p → HasZeroBetween (turn_of r s q) (turn_of r s p) → HasZeroBetween (turn_of p q r) (turn_of p q s) → HullsMeet (p ∷ q ∷ []) (r ∷ s ∷ [])
 crosses_down p q r s h i j = crossing_meets p q r s (neg_ℤ (turn_of r s q)) (turn_of r s p) (turn_of p q s) (neg_ℤ (turn_of p q r)) (record {
   first = nonneg_of_nonpos (turn_of r s q) i.low;
   second = i.high;
@@ -141,7 +141,7 @@ crosses_down p q r s h i j = crossing_meets p q r s (neg_ℤ (turn_of r s q)) (t
     same : (a b c d : ℤ) → b -ℤ a ≡ c -ℤ d → neg_ℤ b +ℤ a ≡ d +ℤ neg_ℤ c
     same a b c d h = omega (arith, ints)
 
-between_at : (a b u v : ℤ) → a ≡ u → b ≡ v → IsBetween a b → IsBetween u v
+between_at : (a b u v : ℤ) → a ≡ u → b ≡ v → HasZeroBetween a b → HasZeroBetween u v
 between_at a b u v e f h = record { low = omega (arith, ints); high = omega (arith, ints) }
 
 -- ---- two segments, by turns that begin at p
@@ -152,23 +152,23 @@ fourth p q r s = by (turn_of p q r) (turn_of p q s) (turn_of p r s) (turn_of r s
     by k l m n o f e = omega (arith, ints)
 
 -- values in place of turns
-same_between : (a b c d k l m o : ℤ) → a ≡ k → b ≡ l → c ≡ m → d ≡ c +ℤ (a -ℤ b) → m +ℤ (k -ℤ l) ≡ o → IsBetween c d → IsBetween m o
+same_between : (a b c d k l m o : ℤ) → a ≡ k → b ≡ l → c ≡ m → d ≡ c +ℤ (a -ℤ b) → m +ℤ (k -ℤ l) ≡ o → HasZeroBetween c d → HasZeroBetween m o
 same_between a b c d k l m o e f g h i j = record { low = omega (arith, ints); high = omega (arith, ints) }
 
-same_back : (a b c d k l m o : ℤ) → a ≡ k → b ≡ l → c ≡ m → d ≡ c +ℤ (a -ℤ b) → m +ℤ (k -ℤ l) ≡ o → IsBetween d c → IsBetween o m
+same_back : (a b c d k l m o : ℤ) → a ≡ k → b ≡ l → c ≡ m → d ≡ c +ℤ (a -ℤ b) → m +ℤ (k -ℤ l) ≡ o → HasZeroBetween d c → HasZeroBetween o m
 same_back a b c d k l m o e f g h i j = record { low = omega (arith, ints); high = omega (arith, ints) }
 
-pub crosses_up_by : (p q r s : Pt) (a b c d u : ℤ) → a ≡ turn_of p q r → b ≡ turn_of p q s → c ≡ turn_of p r s → d ≡ u → u ≡ c +ℤ (a -ℤ b) → turn_of p q s <ℤ turn_of p q r → IsBetween b a → IsBetween c d → HullsMeet (p ∷ q ∷ []) (r ∷ s ∷ [])
+pub crosses_up_by : (p q r s : Pt) (a b c d u : ℤ) → a ≡ turn_of p q r → b ≡ turn_of p q s → c ≡ turn_of p r s → d ≡ u → u ≡ c +ℤ (a -ℤ b) → turn_of p q s <ℤ turn_of p q r → HasZeroBetween b a → HasZeroBetween c d → HullsMeet (p ∷ q ∷ []) (r ∷ s ∷ [])
 crosses_up_by p q r s a b c d u e f g h v l i j = crosses_up p q r s (less (turn_of p q r) (turn_of p q s) (turn_of r s p) (turn_of r s q) (four_turns p q r s) l)
-    (subst (λ (t : ℤ). IsBetween t (turn_of r s q)) (turned_on p r s) (same_between a b c d (turn_of p q r) (turn_of p q s) (turn_of p r s) (turn_of r s q) e f g (h ∙ v) (fourth p q r s) j))
+    (subst (λ (t : ℤ). HasZeroBetween t (turn_of r s q)) (turned_on p r s) (same_between a b c d (turn_of p q r) (turn_of p q s) (turn_of p r s) (turn_of r s q) e f g (h ∙ v) (fourth p q r s) j))
     (between_at b a (turn_of p q s) (turn_of p q r) f e i)
   where
     less : (k l m n : ℤ) → n -ℤ m ≡ k -ℤ l → l <ℤ k → m <ℤ n
     less k l m n e h = omega (arith, ints)
 
-pub crosses_down_by : (p q r s : Pt) (a b c d u : ℤ) → a ≡ turn_of p q r → b ≡ turn_of p q s → c ≡ turn_of p r s → d ≡ u → u ≡ c +ℤ (a -ℤ b) → turn_of p q r <ℤ turn_of p q s → IsBetween a b → IsBetween d c → HullsMeet (p ∷ q ∷ []) (r ∷ s ∷ [])
+pub crosses_down_by : (p q r s : Pt) (a b c d u : ℤ) → a ≡ turn_of p q r → b ≡ turn_of p q s → c ≡ turn_of p r s → d ≡ u → u ≡ c +ℤ (a -ℤ b) → turn_of p q r <ℤ turn_of p q s → HasZeroBetween a b → HasZeroBetween d c → HullsMeet (p ∷ q ∷ []) (r ∷ s ∷ [])
 crosses_down_by p q r s a b c d u e f g h v l i j = crosses_down p q r s (less (turn_of p q r) (turn_of p q s) (turn_of r s p) (turn_of r s q) (four_turns p q r s) l)
-    (subst (λ (t : ℤ). IsBetween (turn_of r s q) t) (turned_on p r s) (same_back a b c d (turn_of p q r) (turn_of p q s) (turn_of p r s) (turn_of r s q) e f g (h ∙ v) (fourth p q r s) j))
+    (subst (λ (t : ℤ). HasZeroBetween (turn_of r s q) t) (turned_on p r s) (same_back a b c d (turn_of p q r) (turn_of p q s) (turn_of p r s) (turn_of r s q) e f g (h ∙ v) (fourth p q r s) j))
     (between_at a b (turn_of p q r) (turn_of p q s) e f i)
   where
     less : (k l m n : ℤ) → n -ℤ m ≡ k -ℤ l → k <ℤ l → n <ℤ m

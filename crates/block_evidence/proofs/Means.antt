@@ -16,7 +16,7 @@ use Rattle.sight_names.specs.declared.names.EndPair.{EndPair}
 use Rattle.sight_names.specs.Point.{Point, point_of, value_at}
 use Rattle.sight_names.specs.Splitting.{AreBalanced, across, up, weighed}
 use Rattle.block_evidence.specs.Stuck.{weighed_x, weighed_y, IsMeanOf, HullsMeet, left_ends, right_ends, AreStuck}
-use Rattle.block_evidence.specs.Parted.{PartsEnds, AreParted}
+use Rattle.block_evidence.specs.Parted.{PartsEnds, AreEndsParted}
 use Rattle.math_base.proofs.Options.{none_is_not_some, some_is_same}
 use Rattle.math_base.proofs.Small.{weighed_pos, weighed_nonneg}
 use Rattle.sight_names.proofs.Affine.{neg_value}
@@ -114,7 +114,7 @@ each_right a b c [] h = tt
 each_right a b c (e ∷ ends) h = (h.0.right, each_right a b c ends h.1)
 
 -- ends that a line parts aren't stuck
-pub parted_not_stuck : (ends : List EndAt) → AreParted ends → AreStuck ends → ⊥
+pub parted_not_stuck : (ends : List EndAt) → AreEndsParted ends → AreStuck ends → ⊥
 parted_not_stuck ends (a, b, c, h) (r, m, n) =
     let u = mean_above a b c (left_ends ends) r m (all_lefts ends (λ p. pos 0 <ℤ line a b c p) (each_left a b c ends h)) in
     let v = mean_below a b c (right_ends ends) r n (all_rights ends (λ p. line a b c p <ℤ pos 0) (each_right a b c ends h)) in

@@ -12,7 +12,7 @@ use Rattle.geom_exact.specs.declared.extreme_lines.extreme.Extreme.{Extreme}
 use Rattle.geom_exact.specs.declared.extreme_lines.cone.Cone.{Cone}
 use Rattle.geom_exact.specs.declared.extreme_lines.cone.Cone.TheVariants.{Ray}
 use Rattle.geom_exact.specs.ExtremeLines.Differences.{difference}
-use Rattle.geom_exact.specs.ExtremeLines.Spans.{Spans, first_of, second_of, pair_of, IsWidened, IsCutOf, three_pairs}
+use Rattle.geom_exact.specs.ExtremeLines.Spans.{Spans, first_extreme, second_of, end_pair_of, IsWidened, IsCutOf, three_pairs}
 use Rattle.block_evidence.specs.Stuck.{left_ends, right_ends, AreStuck}
 use Rattle.block_evidence.specs.Parted.{PartsEnd, PartsEnds}
 use Rattle.block_evidence.specs.Pairs.{IsLeftIn, IsRightIn, IsConeIn, Keeps, HasAt, HasAllAt}
@@ -28,8 +28,8 @@ in_right ends e h = in_rights ends h.place e h.code h.is
 -- a pair that meets the extreme ones
 pub meeting : (ends : List EndAt) (c : Cone) (l r : EndAt) → IsConeIn ends c → IsLeftIn ends l → IsRightIn ends r → AreBalanced (three_pairs c l r) → AreStuck ends
 meeting ends c l r h i j b = balanced_meet (left_ends ends) (right_ends ends) (three_pairs c l r) b
-    (in_left ends (first_of c).left h.first_left, (in_left ends (second_of c).left h.second_left, (in_left ends l i, tt)))
-    (in_right ends (first_of c).right h.first_right, (in_right ends (second_of c).right h.second_right, (in_right ends r j, tt)))
+    (in_left ends (first_extreme c).left h.first_left, (in_left ends (second_of c).left h.second_left, (in_left ends l i, tt)))
+    (in_right ends (first_extreme c).right h.first_right, (in_right ends (second_of c).right h.second_right, (in_right ends r j, tt)))
 
 choose_left : (ends : List EndAt) (old new made : EndPair) → (new ≡ old) ⊎ (new ≡ made) → IsLeftIn ends old.left → IsLeftIn ends made.left → IsLeftIn ends new.left
 choose_left ends old new made (inl e) h k = subst (λ (p : EndPair). IsLeftIn ends p.left) (sym e) h
@@ -41,10 +41,10 @@ choose_right ends old new made (inr e) h k = subst (λ (p : EndPair). IsRightIn 
 
 cone_widened : (ends : List EndAt) (c d : Cone) (l r : EndAt) → IsConeIn ends c → IsLeftIn ends l → IsRightIn ends r → IsWidened c l r d → IsConeIn ends d
 cone_widened ends c d l r h i j w = record {
-  first_left = choose_left ends (pair_of (first_of c)) (pair_of (first_of d)) (record { left = l; right = r }) w.first h.first_left i;
-  first_right = choose_right ends (pair_of (first_of c)) (pair_of (first_of d)) (record { left = l; right = r }) w.first h.first_right j;
-  second_left = choose_left ends (pair_of (second_of c)) (pair_of (second_of d)) (record { left = l; right = r }) w.second h.second_left i;
-  second_right = choose_right ends (pair_of (second_of c)) (pair_of (second_of d)) (record { left = l; right = r }) w.second h.second_right j;
+  first_left = choose_left ends (end_pair_of (first_extreme c)) (end_pair_of (first_extreme d)) (record { left = l; right = r }) w.first h.first_left i;
+  first_right = choose_right ends (end_pair_of (first_extreme c)) (end_pair_of (first_extreme d)) (record { left = l; right = r }) w.first h.first_right j;
+  second_left = choose_left ends (end_pair_of (second_of c)) (end_pair_of (second_of d)) (record { left = l; right = r }) w.second h.second_left i;
+  second_right = choose_right ends (end_pair_of (second_of c)) (end_pair_of (second_of d)) (record { left = l; right = r }) w.second h.second_right j;
 }
 
 pub end_result : (ends : List EndAt) (c : Cone) (l r : EndAt) (j : ℕ) (o : Option Cone) → IsConeIn ends c → IsLeftIn ends l → IsRightIn ends r → slice_get ends j ≡ Some r
@@ -63,15 +63,15 @@ each_parted a b c (e ∷ ends) h = (h 0 e refl, each_parted a b c ends (λ k d g
 
 pub whole_parted : (ends : List EndAt) (k : Cone) (a b c : ℤ) → IsConeIn ends k → ((i : ℕ) → i < length ends → HasAllAt ends i k) → IsCutOf k a b c → PartsEnds ends a b c
 whole_parted ends k a b c h all cut = each_parted a b c ends (λ i e g. record {
-  left = λ n. cut.left e.at (all i (slice_get_within ends i e g) e g n h.first_right.place (first_of k).right h.first_right.is h.first_right.code) (all i (slice_get_within ends i e g) e g n h.second_right.place (second_of k).right h.second_right.is h.second_right.code);
-  right = λ n. cut.right e.at (at (first_of k).left h.first_left i e g n) (at (second_of k).left h.second_left i e g n);
+  left = λ n. cut.left e.at (all i (slice_get_within ends i e g) e g n h.first_right.place (first_extreme k).right h.first_right.is h.first_right.code) (all i (slice_get_within ends i e g) e g n h.second_right.place (second_of k).right h.second_right.is h.second_right.code);
+  right = λ n. cut.right e.at (at (first_extreme k).left h.first_left i e g n) (at (second_of k).left h.second_left i e g n);
 })
   where
     at : (l : EndAt) → IsLeftIn ends l → (i : ℕ) (e : EndAt) → slice_get ends i ≡ Some e → RIGHT_END ≤ e.code → Spans k (difference l.at e.at)
     at l m i e g n = all m.place (slice_get_within ends m.place l m.is) l m.is m.code i e g n
 
-pub whole_corner : (ends : List EndAt) (k : Cone) → IsConeIn ends k → ((i : ℕ) → i < length ends → HasAllAt ends i k) → Spans k (difference (second_of k).left.at (first_of k).right.at)
-whole_corner ends k h all = all h.second_left.place (slice_get_within ends h.second_left.place (second_of k).left h.second_left.is) (second_of k).left h.second_left.is h.second_left.code h.first_right.place (first_of k).right h.first_right.is h.first_right.code
+pub whole_corner : (ends : List EndAt) (k : Cone) → IsConeIn ends k → ((i : ℕ) → i < length ends → HasAllAt ends i k) → Spans k (difference (second_of k).left.at (first_extreme k).right.at)
+whole_corner ends k h all = all h.second_left.place (slice_get_within ends h.second_left.place (second_of k).left h.second_left.is) (second_of k).left h.second_left.is h.second_left.code h.first_right.place (first_extreme k).right h.first_right.is h.first_right.code
 
 -- ---- without a left or without a right end
 flat : (v : ℤ) (x y : ℤ) → pos 0 *ℤ x +ℤ pos 0 *ℤ y +ℤ v *ℤ pos 1 ≡ v

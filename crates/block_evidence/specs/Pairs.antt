@@ -5,7 +5,7 @@ use Rattle.sight_names.specs.declared.names.EndAt.{EndAt}
 use Rattle.plane_base.specs.Arrows.{Arrow}
 use Rattle.geom_exact.specs.declared.extreme_lines.cone.Cone.{Cone}
 use Rattle.geom_exact.specs.ExtremeLines.Differences.{difference}
-use Rattle.geom_exact.specs.ExtremeLines.Spans.{Spans, first_of, second_of}
+use Rattle.geom_exact.specs.ExtremeLines.Spans.{Spans, first_extreme, second_of}
 
 -- a left end of the list
 pub record IsLeftIn (ends : List EndAt) (e : EndAt) : Type 0 where
@@ -21,8 +21,8 @@ pub record IsRightIn (ends : List EndAt) (e : EndAt) : Type 0 where
 
 -- the extreme lines of the cone are lines between ends of the list
 pub record IsConeIn (ends : List EndAt) (c : Cone) : Type 0 where
-  pub first_left : IsLeftIn ends (first_of c).left
-  pub first_right : IsRightIn ends (first_of c).right
+  pub first_left : IsLeftIn ends (first_extreme c).left
+  pub first_right : IsRightIn ends (first_extreme c).right
   pub second_left : IsLeftIn ends (second_of c).left
   pub second_right : IsRightIn ends (second_of c).right
 

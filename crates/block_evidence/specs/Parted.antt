@@ -14,5 +14,5 @@ abbrev pub PartsEnds : List EndAt → ℤ → ℤ → ℤ → Type 0
 PartsEnds ends a b c = AllByRecursion (PartsEnd a b c) ends
 
 -- some whole line parts them
-abbrev pub AreParted : List EndAt → Type 0
-AreParted ends = (a b c : ℤ) × PartsEnds ends a b c
+abbrev pub AreEndsParted : List EndAt → Type 0
+AreEndsParted ends = (a b c : ℤ) × PartsEnds ends a b c

@@ -2,7 +2,7 @@
 use Rattle.std.specs.Prelude.{ℤ, pos, ◌+ℤ◌, ◌≤ℤ◌, ◌<ℤ◌}
 
 -- 0 is between the two numbers
-pub record IsBetween (least greatest : ℤ) : Type 0 where
+pub record HasZeroBetween (least greatest : ℤ) : Type 0 where
   pub low : least ≤ℤ pos 0
   pub high : pos 0 ≤ℤ greatest
 

@@ -48,13 +48,13 @@ abbrev pub end_codes : Evidence → List ℕ
 end_codes e = take e.count e.ends
 
 -- they are ends of these portals, and they are stuck
-pub record Blocks (es : List EndPoints) (e : Evidence) : Type 0 where
+pub record BlocksEnds (es : List EndPoints) (e : Evidence) : Type 0 where
   pub ends : AllByRecursion (λ code. IsSome (end_of es code)) (end_codes e)
   pub stuck : AreStuck (filter_map (end_of es) (end_codes e))
 
 -- they are ends of the sequence with these portals, and they are stuck
 abbrev pub BlocksSequence : Map → List Portal → Evidence → Type 0
-BlocksSequence m ps e = Blocks (end_points m ps) e
+BlocksSequence m ps e = BlocksEnds (end_points m ps) e
 
 -- ---- evidence that is made of pairs
 
@@ -66,8 +66,8 @@ pub record AreCoded (pairs : List EndPair) : Type 0 where
   pub same_rights : (p q : EndPair) → Contains pairs p → Contains pairs q → p.right.code ≡ q.right.code → p.right ≡ q.right
 
 -- one of the ends of these pairs
-abbrev pub IsEndOf : List EndPair → EndAt → Type 0
-IsEndOf pairs e = (p : EndPair) × Contains pairs p × ((p.left ≡ e) ⊎ (p.right ≡ e))
+abbrev pub IsEndOfPairs : List EndPair → EndAt → Type 0
+IsEndOfPairs pairs e = (p : EndPair) × Contains pairs p × ((p.left ≡ e) ⊎ (p.right ≡ e))
 
 -- two to four ends of these pairs that are stuck, by codes that ascend strictly; the places left over are 0
 pub record IsEvidenceOf (pairs : List EndPair) (e : Evidence) : Type 0 where
@@ -77,5 +77,5 @@ pub record IsEvidenceOf (pairs : List EndPair) (e : Evidence) : Type 0 where
   pub unused : drop e.count e.ends ≡ replicate (4 - e.count) 0
   pub ends : List EndAt
   pub coded : map (λ (d : EndAt). d.code) ends ≡ end_codes e
-  pub from_pairs : All (IsEndOf pairs) ends
+  pub from_pairs : All (IsEndOfPairs pairs) ends
   pub stuck : AreStuck ends

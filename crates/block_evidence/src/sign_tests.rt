@@ -3,14 +3,14 @@
 
 ghost use Rattle.std.specs.Prelude.{◌≡◌, ◌≤◌, ◌<◌, ◌^◌, ◌+ℤ◌, ◌-ℤ◌, ◌∷◌, [], unsigned_abs, IsTrue};
 ghost use Rattle.block_evidence.specs.Stuck.{AreStuck, HullsMeet};
-ghost use Rattle.block_evidence.specs.SignTests.{AreWeights, AreOpposite, IsBetween};
+ghost use Rattle.block_evidence.specs.SignTests.{AreWeights, AreOpposite, HasZeroBetween};
 
 use geom_exact::turn;
 use sight_names::{EndAt, Pt, RIGHT_END};
 
 /// Whether 0 is between the two numbers.
 fn is_between(low: i64, high: i64) -> bool
-    ensures { IsTrue result → IsBetween low high }
+    ensures { IsTrue result → HasZeroBetween low high }
 {
     low <= 0 && 0 <= high
 }

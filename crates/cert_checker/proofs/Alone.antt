@@ -9,7 +9,7 @@ use Rattle.sight_names.proofs.Lists.{contains_cases}
 use Rattle.cert_checker.specs.AcceptedGroups.Accepted.{IsAlone}
 use Rattle.cert_checker.specs.Members.{added, AreMembersBelow, AreMembersBy, IsMember}
 use Rattle.cert_checker.specs.Named.{MarksNamed}
-use Rattle.cert_checker.specs.TreeJudge.Marks.{IsMarked}
+use Rattle.cert_checker.specs.TreeJudge.Marks.{IsFlagSet}
 
 at_end : (xss : List (List ℕ)) (xs ys : List ℕ) (a : ℕ) → slice_get (xss ++ xs ∷ []) a ≡ Some ys → (slice_get xss a ≡ Some ys) ⊎ ((a ≡ length xss) × (xs ≡ ys))
 at_end [] xs ys zero e = inr (refl, same_Some xs ys e)
@@ -43,7 +43,7 @@ alone_has true a f = (
 alone_has false a f = ((λ c. absurd (contains_none f c)), (λ h. absurd (false≢true h.1)))
 
 -- the list of one more sector, by the flags of those that sides name
-pub alone_more : (m : Map) (n a : ℕ) (marks : List Bool) (named : Bool) (lists new : List (List ℕ)) (own : List ℕ) → n ≡ m.sectors → a < n → MarksNamed m marks → (IsTrue named ↔ IsMarked marks a) → own ≡ added named a [] → new ≡ lists ++ own ∷ []
+pub alone_more : (m : Map) (n a : ℕ) (marks : List Bool) (named : Bool) (lists new : List (List ℕ)) (own : List ℕ) → n ≡ m.sectors → a < n → MarksNamed m marks → (IsTrue named ↔ IsFlagSet marks a) → own ≡ added named a [] → new ≡ lists ++ own ∷ []
     → AreMembersBy (IsAlone m) a lists → AreMembersBy (IsAlone m) (a + 1) new
 alone_more m n a marks named lists new own size lt marked told e pushed all = subst (AreMembersBy (IsAlone m) (a + 1)) (sym pushed) (members_more (IsAlone m) a lists own all (λ f. (
   (λ c. let h = (alone_has named a f).0 (subst (λ (xs : List ℕ). Contains xs f) e c) in (h.0, (marked.flags a low).0 (told.0 h.1))),

@@ -12,7 +12,7 @@ use Rattle.sight_names.proofs.Lists.{contains_of_get}
 use Rattle.reject_bits.specs.Parts.{TableParts, Rejects}
 use Rattle.cert_format.specs.Accepted.{EitherClear}
 use Rattle.cert_checker.specs.declared.pairs.PairFacts.{PairFacts}
-use Rattle.cert_checker.specs.Pairs.{pair, one_if, either_set, set_in_row, CanJudgeEach, Describes, IsListBelow, IsPlaceOf, IsRowFine, IsWithin}
+use Rattle.cert_checker.specs.Pairs.{pair, one_if, either_set, set_in_row, CanJudgeEach, Describes, IsListBelow, IsPlaceOfPair, IsRowFine, IsPairWithin}
 use Rattle.cert_checker.specs.BlindRows.{HasNoGroup, IsNoneListed}
 use Rattle.cert_checker.proofs.Counts.{row_more}
 
@@ -23,9 +23,9 @@ no_group_told members a fs r at e = (λ t. at ∙ ap Some (nil_from_length fs (e
 
 -- ---- the list
 
-module _ (ps : List Pair) (a i : ℕ) (at : IsPlaceOf ps a a i) where
+module _ (ps : List Pair) (a i : ℕ) (at : IsPlaceOfPair ps a a i) where
   -- the place is that of the next row too
-  pub plain_place : (n : ℕ) → IsListBelow n ps → IsNoneListed ps a → IsPlaceOf ps (a + 1) (a + 1) i
+  pub plain_place : (n : ℕ) → IsListBelow n ps → IsNoneListed ps a → IsPlaceOfPair ps (a + 1) (a + 1) i
   plain_place n list none = record {
     within = at.within;
     below = λ j p l h. before p (at.below j p l h);
@@ -45,7 +45,7 @@ module _ (ps : List Pair) (a i : ℕ) (at : IsPlaceOf ps a a i) where
           same : (q : Pair) → q.a ≡ a → q ≡ pair a q.b
           same q e = λ x. record { a = e x; b = q.b }
 
-      behind : (j : ℕ) (p : Pair) → i ≤ j → slice_get ps j ≡ Some p → IsWithin n p → PairBefore p (pair (a + 1) (a + 1)) → ⊥
+      behind : (j : ℕ) (p : Pair) → i ≤ j → slice_get ps j ≡ Some p → IsPairWithin n p → PairBefore p (pair (a + 1) (a + 1)) → ⊥
       behind j p l h w (inr e) = let k = w.0 in let x = e.0 in let y = e.1 in omega (arith, k, x, y)
       behind j p l h w (inl f) = elim (cases_lt p.a a) as (λ _. ⊥) [
         | inl k ↦ at.behind j p l h (inl k)

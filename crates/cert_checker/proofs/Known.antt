@@ -7,11 +7,11 @@ use Rattle.sight_names.specs.declared.names.Pair.{Pair}
 use Rattle.sight_names.specs.declared.names.PairRay.{PairRay}
 use Rattle.math_base.proofs.Numbers.{below_same_or_above}
 use Rattle.reject_bits.specs.Parts.{TableParts, Rejects, SetsPair, KeepsOtherPairs}
-use Rattle.cert_checker.specs.Pairs.{pair, IsWithin, KnownParts, HasRayBelow, MarksRays, AreAllApart, AreSectorsJoined, AreSomeJoined, IsShownBlind}
+use Rattle.cert_checker.specs.Pairs.{pair, IsPairWithin, KnownParts, HasRayBelow, MarksRays, AreAllApart, AreSectorsJoined, AreSomeJoined, IsShownBlind}
 
 -- ---- rays
 
-pub rays_more : (count n : ℕ) (rays : List PairRay) (r : PairRay) (old new : TableParts) → slice_get rays n ≡ Some r → IsWithin count r.pair → MarksRays count n rays old → SetsPair old new r.pair.a r.pair.b → KeepsOtherPairs old new r.pair.a r.pair.b → MarksRays count (n + 1) rays new
+pub rays_more : (count n : ℕ) (rays : List PairRay) (r : PairRay) (old new : TableParts) → slice_get rays n ≡ Some r → IsPairWithin count r.pair → MarksRays count n rays old → SetsPair old new r.pair.a r.pair.b → KeepsOtherPairs old new r.pair.a r.pair.b → MarksRays count (n + 1) rays new
 rays_more count n rays r old new at within all sets keeps = record { sectors = sets.sectors ∙ all.sectors; bits = bits }
   where
     low : (f : ℕ) → f < count → f < old.n

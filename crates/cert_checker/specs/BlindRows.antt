@@ -2,7 +2,7 @@
 use Rattle.std.specs.Prelude.{◌≡◌, ℕ, ◌+◌, ◌-◌, ◌<◌, ◌≤◌, List, Some, [], slice_get, Contains}
 use Rattle.sight_names.specs.declared.names.Pair.{Pair}
 use Rattle.reject_bits.specs.Parts.{TableParts, Rejects}
-use Rattle.cert_checker.specs.Pairs.{pair, set_in_row, IsPlaceOf, IsRowFine}
+use Rattle.cert_checker.specs.Pairs.{pair, set_in_row, IsPlaceOfPair, IsRowFine}
 
 -- the sector has its list of groups, and no group is in it
 abbrev pub HasNoGroup : List (List ℕ) → ℕ → Type 0
@@ -20,4 +20,4 @@ IsNoneListed pairs a = (b : ℕ) → a ≤ b → ¬ Contains pairs (pair a b)
 pub record IsRowPlain (fine : ℕ → ℕ → Type 0) (t : TableParts) (pairs : List Pair) (a passed : ℕ) : Type 0 where
   pub fine_row : IsRowFine fine t.n a
   pub set : set_in_row t t.n a ≡ t.n - a
-  pub place : IsPlaceOf pairs (a + 1) (a + 1) passed
+  pub place : IsPlaceOfPair pairs (a + 1) (a + 1) passed

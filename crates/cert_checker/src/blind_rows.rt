@@ -5,7 +5,7 @@ ghost use Rattle.std.specs.Prelude.{◌≡◌, ◌+◌, ◌-◌, ◌<◌, ◌≤
 ghost use Rattle.sight_names.specs.Order.{Ascends, PairBefore};
 ghost use Rattle.reject_bits.specs.Parts.{Rejects};
 ghost use Rattle.cert_checker.specs.BlindRows.{AreColumnsSet, IsNoneListed, IsRowPlain};
-ghost use Rattle.cert_checker.specs.Pairs.{total_of, CanJudgeEach, IsListBelow, IsPlaceOf};
+ghost use Rattle.cert_checker.specs.Pairs.{total_of, CanJudgeEach, IsListBelow, IsPlaceOfPair};
 
 use crate::pairs::PairRules;
 use crate::verdict::Totals;
@@ -61,7 +61,7 @@ pub fn columns_set<R: PairRules>(rules: &R, table: &Table) -> u16
 /// Whether the list has no pair of the sector with itself or a greater one, when so many of the list come before it.
 fn is_none_listed(listed: &[Pair], passed: u32, a: u16) -> bool
     requires listed { Ascends PairBefore listed.now }
-    requires place { IsPlaceOf listed.now a a passed }
+    requires place { IsPlaceOfPair listed.now a a passed }
     ensures { IsTrue result → IsNoneListed listed.now a }
 {
     match listed.get(passed as usize) {
@@ -83,7 +83,7 @@ pub fn is_row_plain<R: PairRules>(
     requires from { a < table.now.n }
     requires rules { CanJudgeEach (R.can_judge rules.now) table.now listed.now }
     requires listed { IsListBelow table.now.n listed.now }
-    requires place { IsPlaceOf listed.now a a passed }
+    requires place { IsPlaceOfPair listed.now a a passed }
     requires columns { AreColumnsSet (R.is_blind rules.now) table.now before }
     ensures { IsTrue result → IsRowPlain (R.is_fine rules.now) table.now listed.now a passed }
 {

@@ -10,7 +10,7 @@ use Rattle.sight_names.specs.declared.faults.CertFault.{CertFault}
 use Rattle.sight_names.specs.declared.faults.CertFault.TheVariants as faults
 use Rattle.sight_names.specs.declared.names.Side.{Side}
 use Rattle.block_evidence.specs.SightTree.Spelling.{u16}
-use Rattle.cert_format.specs.Grammar.{side_number}
+use Rattle.cert_format.specs.Grammar.{side_code}
 use Rattle.cert_format.specs.Reading.{◌>>=◌, begins_at, passed, number_at, signed_at, number_below, number_known, point_apart, side_at}
 
 abbrev pub IsBytes : List ℕ → Type 0
@@ -160,26 +160,26 @@ signed_again w limit wide total z rest lt fits = rw (number_again w limit wide t
 
 -- ---- sides
 
-pub side_takes : (lines total : ℕ) (bytes : List ℕ) (x : Side × List ℕ) → IsBytes bytes → side_at lines total bytes ≡ Ok x → Takes bytes (u16 (side_number x.0)) x.1 × ((x.0.line < lines) × (x.0.line < 2 ^ 15))
+pub side_takes : (lines total : ℕ) (bytes : List ℕ) (x : Side × List ℕ) → IsBytes bytes → side_at lines total bytes ≡ Ok x → Takes bytes (u16 (side_code x.0)) x.1 × ((x.0.line < lines) × (x.0.line < 2 ^ 15))
 unfolding side_at
 side_takes lines total bytes x fits e =
     let made : ℕ → Side = λ n. record { line = n % 32768; left = ltb 32767 n } in
     let a = bind_ok (number_at w16 total bytes) (λ n. passed (ltb (n.0 % 32768) lines) (faults.OutOfRange (begins_at total bytes)) (made n.0, n.1)) x e in
     let g = passed_ok (ltb (a.0.0 % 32768) lines) (faults.OutOfRange (begins_at total bytes)) (made a.0.0, a.0.1) x a.2 in
     let t = number_takes w16 (2 ^ 16) wide16 total bytes a.0 fits a.1 in
-    subst (λ (y : Side × List ℕ). Takes bytes (u16 (side_number y.0)) y.1 × ((y.0.line < lines) × (y.0.line < 2 ^ 15))) g.1
+    subst (λ (y : Side × List ℕ). Takes bytes (u16 (side_code y.0)) y.1 × ((y.0.line < lines) × (y.0.line < 2 ^ 15))) g.1
     (subst (λ (k : ℕ). Takes bytes (u16 k) a.0.1) (sym (number_is a.0.0 t.1)) t.0, (ltb-true _ _ g.0, omega arith))
   where
     number_is : (n : ℕ) → n < 2 ^ 16 → cond (ltb 32767 n) (n % 32768 + 32768) (n % 32768) ≡ n
     number_is n lt = elim (cases_lt 32767 n) [ inl h ↦ rw (lt-ltb _ _ h) (omega arith) | inr h ↦ rw (le-ltb _ _ h) (omega arith) ]
 
-pub side_again : (lines total : ℕ) (s : Side) (rest : List ℕ) → s.line < lines → s.line < 2 ^ 15 → side_at lines total (u16 (side_number s) ++ rest) ≡ Ok (s, rest)
+pub side_again : (lines total : ℕ) (s : Side) (rest : List ℕ) → s.line < lines → s.line < 2 ^ 15 → side_at lines total (u16 (side_code s) ++ rest) ≡ Ok (s, rest)
 unfolding side_at
 side_again lines total s rest lt small =
-    let fits : side_number s < 2 ^ 16 = fits_two s.left s.line small in
-    let line_is : side_number s % 32768 ≡ s.line = line_back s.left s.line small in
-    let left_is : ltb 32767 (side_number s) ≡ s.left = left_back s.left s.line small in
-    rw (number_again w16 (2 ^ 16) wide16 total (side_number s) rest fits, line_is, left_is, lt-ltb _ _ lt) refl
+    let fits : side_code s < 2 ^ 16 = fits_two s.left s.line small in
+    let line_is : side_code s % 32768 ≡ s.line = line_back s.left s.line small in
+    let left_is : ltb 32767 (side_code s) ≡ s.left = left_back s.left s.line small in
+    rw (number_again w16 (2 ^ 16) wide16 total (side_code s) rest fits, line_is, left_is, lt-ltb _ _ lt) refl
   where
     fits_two : (left : Bool) (line : ℕ) → line < 2 ^ 15 → cond left (line + 32768) line < 2 ^ 16
     fits_two true line h = omega arith

@@ -12,9 +12,9 @@ use Rattle.sight_names.specs.Mesh.{IsTriangle, IsAbove}
 use Rattle.cert_format.specs.declared.cert.Sizes.{Sizes}
 use Rattle.cert_format.specs.declared.cert.Labelled.{Labelled}
 use Rattle.block_evidence.specs.SightTree.Spelling.{u16}
-use Rattle.cert_format.specs.Grammar.{IsPairInRange, IsRayInRange, FitsRay, side_number, triangle_bytes, line_bytes, ray_bytes, pair_bytes}
+use Rattle.cert_format.specs.Grammar.{IsPairInRange, IsRayInRange, FitsRay, side_code, triangle_bytes, line_bytes, ray_bytes, pair_bytes}
 use Rattle.sight_names.specs.Order.{PairBefore}
-use Rattle.cert_format.specs.Reading.{triangle_after, pair_after, pair_of, triangle_at, sight_line_at, ray_at, pair_at, signed_at}
+use Rattle.cert_format.specs.Reading.{triangle_after, pair_after, pair_if_any, triangle_at, sight_line_at, ray_at, pair_at, signed_at}
 use Rattle.cert_format.proofs.FieldLaws.{IsBytes, bind_ok, passed_ok, ok_is, Takes, Takes-then, wide32, wide64, below_takes, below_again, apart_takes, apart_again, side_takes, side_again, signed_takes, signed_again}
 
 -- ---- triangles
@@ -123,11 +123,11 @@ abbrev pub RayAfter : Option PairRay → PairRay → Type 0
 RayAfter None r = Unit {0}
 RayAfter (Some o) r = PairBefore o.pair r.pair
 
-ray_after_is : (k : Option PairRay) (r : PairRay) → PairAfter (pair_of k) r.pair → RayAfter k r
+ray_after_is : (k : Option PairRay) (r : PairRay) → PairAfter (pair_if_any k) r.pair → RayAfter k r
 ray_after_is None r h = h
 ray_after_is (Some o) r h = h
 
-ray_after_test : (k : Option PairRay) (r : PairRay) → RayAfter k r → PairAfter (pair_of k) r.pair
+ray_after_test : (k : Option PairRay) (r : PairRay) → RayAfter k r → PairAfter (pair_if_any k) r.pair
 ray_after_test None r h = h
 ray_after_test (Some o) r h = h
 
@@ -164,8 +164,8 @@ line_takes lines total bytes x fits e =
     let t4 = signed32_takes total l.0.1 a.0 t3.0.rest_fits a.1 in
     let t5 = signed32_takes total a.0.1 b.0 t4.0.rest_fits b.1 in
     let t6 = signed64_takes total b.0.1 c.0 t5.0.rest_fits c.1 in
-    let s2 = u16 (side_number f.0.0) in
-    let s3 = u16 (side_number l.0.0) in
+    let s2 = u16 (side_code f.0.0) in
+    let s3 = u16 (side_code l.0.0) in
     let s4 = to_le_bytes w32 (cast_unsigned w32 a.0.0) in
     let s5 = to_le_bytes w32 (cast_unsigned w32 b.0.0) in
     let s6 = to_le_bytes w64 (cast_unsigned w64 c.0.0) in
@@ -178,8 +178,8 @@ line_takes lines total bytes x fits e =
 line_again : (lines total : ℕ) (r : Ray) (rest : List ℕ) → FitsLine lines r → sight_line_at lines total (line_bytes r ++ rest) ≡ Ok (r, rest)
 unfolding sight_line_at
 line_again lines total r rest fits =
-    let s2 = u16 (side_number r.first) in
-    let s3 = u16 (side_number r.last) in
+    let s2 = u16 (side_code r.first) in
+    let s3 = u16 (side_code r.last) in
     let s4 = to_le_bytes w32 (cast_unsigned w32 r.a) in
     let s5 = to_le_bytes w32 (cast_unsigned w32 r.b) in
     let s6 = to_le_bytes w64 (cast_unsigned w64 r.c) in
@@ -209,10 +209,10 @@ ray_takes sizes total k bytes x fits e =
     let t2 = line_takes sizes.lines total v.0.1 l.0 t1.0.rest_fits l.1 in
     let e1 = Takes-then bytes (u16 u.0.0) u.0.1 (u16 v.0.0) v.0.1 t0.0 t1.0 in
     let e2 = Takes-then bytes (u16 u.0.0 ++ u16 v.0.0) v.0.1 (line_bytes l.0.0) l.0.1 e1 t2.0 in
-    let h = and_parts (ltb u.0.0 v.0.0) (pair_after (pair_of k) p) g.0 in
+    let h = and_parts (ltb u.0.0 v.0.0) (pair_after (pair_if_any k) p) g.0 in
     let in_range : FitsPairRay sizes r = record { in_range = ((ltb-true _ _ h.0, t1.1), t2.1.first, t2.1.last); fits = t2.1.fits } in
     subst (λ (y : PairRay × List ℕ). Takes bytes (ray_bytes y.0) y.1 × FitsPairRay sizes y.0 × RayAfter k y.0) {x = made} g.1
-    (e2, in_range, ray_after_is k r (pair_after_is (pair_of k) p h.1))
+    (e2, in_range, ray_after_is k r (pair_after_is (pair_if_any k) p h.1))
 
 pub ray_again : (sizes : Sizes) → sizes.sectors < 2 ^ 16 → (total : ℕ) (k : Option PairRay) (r : PairRay) (rest : List ℕ) → FitsPairRay sizes r → RayAfter k r → ray_at sizes total k (ray_bytes r ++ rest) ≡ Ok (r, rest)
 unfolding ray_at
@@ -229,5 +229,5 @@ ray_again sizes small total k r rest fits after =
       below_again sizes.sectors total r.pair.b (line_bytes r.ray ++ rest) small pair.1,
       line_again sizes.lines total r.ray rest line,
       lt-ltb _ _ pair.0,
-      pair_after_test (pair_of k) r.pair (ray_after_test k r after),
+      pair_after_test (pair_if_any k) r.pair (ray_after_test k r after),
     ) refl

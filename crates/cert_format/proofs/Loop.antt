@@ -3,7 +3,7 @@ use Rattle.std.proofs.Common.{◌≡◌, ℕ, suc, ◌-◌, ◌+◌, ◌≤◌, 
 use Rattle.std.proofs.lemmas.List.{append-nil}
 use Rattle.sight_names.specs.declared.faults.CertFault.{CertFault}
 use Rattle.sight_names.specs.declared.faults.CertFault.TheVariants as faults
-use Rattle.cert_format.specs.Reading.{◌>>=◌, Fails, records_at}
+use Rattle.cert_format.specs.Reading.{◌>>=◌, FailsCert, records_at}
 
 -- what was read before, and what is still read
 abbrev pub with_front : {X : Type 0} → List X → Result (List X × List ℕ) CertFault → Result (List X × List ℕ) CertFault
@@ -14,7 +14,7 @@ regroup {X} front n (Ok x) = ap (λ (ns : List X). Ok (ns, x.1)) (simp append_as
 regroup front n (Err f) = refl
 
 -- an answer that is this fault
-pub fails : {Y : Type 0} (f : CertFault) (read : Result Y CertFault) → read ≡ Err f → Fails f read
+pub fails : {Y : Type 0} (f : CertFault) (read : Result Y CertFault) → read ≡ Err f → FailsCert f read
 fails (faults.Memory _) read h = tt
 fails f read h = h
 
@@ -35,14 +35,14 @@ module _ {X K : Type 0} (one : K → List ℕ → Result (X × List ℕ) CertFau
       let one_more : with_front front (records_at one key last (count - i) bytes) ≡ Err f = rw (k, h) refl in
       sym so_far ∙ one_more
 
-  pub ends : (e : CertFault) (front : List X) (last : K) (count i : ℕ) (bytes : List ℕ) (total : Result (List X × List ℕ) CertFault) → i < count → Fails e (one last bytes)
-      → with_front front (records_at one key last (count - i) bytes) ≡ total → Fails e total
+  pub ends : (e : CertFault) (front : List X) (last : K) (count i : ℕ) (bytes : List ℕ) (total : Result (List X × List ℕ) CertFault) → i < count → FailsCert e (one last bytes)
+      → with_front front (records_at one key last (count - i) bytes) ≡ total → FailsCert e total
   ends (faults.Memory _) front last count i bytes total lt h so_far = tt
   ends f front last count i bytes total lt h so_far = stops front last count i bytes f total lt h so_far
 
   -- the same of a record that takes no memory
   pub breaks : (e : CertFault) (front : List X) (last : K) (count i : ℕ) (bytes : List ℕ) (total : Result (List X × List ℕ) CertFault) → i < count → one last bytes ≡ Err e
-      → with_front front (records_at one key last (count - i) bytes) ≡ total → Fails e total
+      → with_front front (records_at one key last (count - i) bytes) ≡ total → FailsCert e total
   breaks e front last count i bytes total lt h so_far = fails e total (stops front last count i bytes e total lt h so_far)
 
   pub is_done : (front : List X) (last : K) (count i : ℕ) (bytes : List ℕ) (total : Result (List X × List ℕ) CertFault) → count ≤ i → with_front front (records_at one key last (count - i) bytes) ≡ total → total ≡ Ok (front, bytes)

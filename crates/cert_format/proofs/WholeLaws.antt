@@ -16,10 +16,10 @@ use Rattle.cert_format.specs.declared.cert.Sizes.{Sizes}
 use Rattle.cert_format.specs.declared.cert.Labelled.{Labelled}
 use Rattle.cert_format.specs.Parts.{CertParts}
 use Rattle.block_evidence.specs.SightTree.Spelling.{u16}
-use Rattle.cert_format.specs.Grammar.{AreSmall, IsPairInRange, IsRayInRange, IsTreeInRange, IsInOrder, FitsRay, FitsFields, Spells, u32, triangle_bytes, ray_bytes, pair_bytes, tree_bytes, front_bytes, spelling}
+use Rattle.cert_format.specs.Grammar.{AreSmall, IsPairInRange, IsRayInRange, IsTreeInRange, IsOneInOrder, FitsRay, FitsFields, SpellsOne, u32, triangle_bytes, ray_bytes, pair_bytes, tree_bytes, front_bytes, spelling}
 use Rattle.sight_names.specs.Order.{Ascends, PairBefore}
 use Rattle.cert_format.specs.Grammar as fields
-use Rattle.cert_format.specs.Reading.{◌>>=◌, passed, magic, magic_at, version_at, front_at, triangle_count_at, Counts, counts_at, triangle_at, ray_at, pair_at, tree_at, triangles_at, rays_at, pairs_at, trees_at, reading}
+use Rattle.cert_format.specs.Reading.{◌>>=◌, passed, cert_magic, magic_at, version_at, front_at, triangle_count_at, RecordCounts, counts_at, triangle_at, ray_at, pair_at, tree_at, triangles_at, rays_at, pairs_at, trees_at, reading}
 use Rattle.cert_format.proofs.FieldLaws.{IsBytes, bind_ok, passed_ok, ok_is, Takes, Takes-then, wide16, wide32, number_takes, number_again, known_takes, known_again}
 use Rattle.cert_format.proofs.RecordLaws.{records_take, records_again, ascends_of_chain, chain_of_ascends}
 use Rattle.cert_format.proofs.KindLaws.{FitsLabelled, TriangleAfter, triangle_takes, triangle_again, PairAfter, pair_takes, pair_again, FitsPairRay, RayAfter, ray_takes, ray_again}
@@ -30,7 +30,7 @@ use Rattle.math_base.proofs.Options.{some_is_same}
 
 -- ---- the header
 
-abbrev pub count_bytes : Counts → List ℕ
+abbrev pub count_bytes : RecordCounts → List ℕ
 count_bytes c = fields.count_bytes c.triangles c.rays c.listed c.trees
 
 front_takes : (sizes : Sizes) (total : ℕ) (bytes rest : List ℕ) → IsBytes bytes → front_at sizes total bytes ≡ Ok rest → Takes bytes (front_bytes sizes) rest
@@ -59,26 +59,26 @@ front_again : (sizes : Sizes) → AreSmall sizes → (total : ℕ) (rest : List 
 unfolding front_at magic_at version_at
 front_again sizes small total rest =
     rw (
-      number_again w32 (2 ^ 32) wide32 total magic (u16 1 ++ (u16 sizes.sectors ++ (u16 sizes.points ++ (u16 sizes.lines ++ rest)))) (omega arith),
+      number_again w32 (2 ^ 32) wide32 total cert_magic (u16 1 ++ (u16 sizes.sectors ++ (u16 sizes.points ++ (u16 sizes.lines ++ rest)))) (omega arith),
       number_again w16 (2 ^ 16) wide16 total 1 (u16 sizes.sectors ++ (u16 sizes.points ++ (u16 sizes.lines ++ rest))) (omega arith),
       known_again sizes.sectors total (u16 sizes.points ++ (u16 sizes.lines ++ rest)) small.sectors,
       known_again sizes.points total (u16 sizes.lines ++ rest) small.points,
     ) (known_again sizes.lines total rest small.lines)
 
-pub record FitCounts (points : ℕ) (c : Counts) : Type 0 where
+pub record FitCounts (points : ℕ) (c : RecordCounts) : Type 0 where
   pub triangles : c.triangles ≤ most_triangles points
   pub rays : c.rays < 2 ^ 32
   pub listed : c.listed < 2 ^ 32
   pub trees : c.trees < 2 ^ 32
 
-pub counts_take : (points total : ℕ) (bytes : List ℕ) (x : Counts × List ℕ) → IsBytes bytes → counts_at points total bytes ≡ Ok x → Takes bytes (count_bytes x.0) x.1 × FitCounts points x.0
+pub counts_take : (points total : ℕ) (bytes : List ℕ) (x : RecordCounts × List ℕ) → IsBytes bytes → counts_at points total bytes ≡ Ok x → Takes bytes (count_bytes x.0) x.1 × FitCounts points x.0
 unfolding counts_at triangle_count_at
 counts_take points total bytes x fits e =
     let t = bind_ok _ _ x e in
     let r = bind_ok _ _ x t.2 in
     let l = bind_ok _ _ x r.2 in
     let f = bind_ok _ _ x l.2 in
-    let made : Counts × List ℕ = (record { triangles = t.0.0; rays = r.0.0; listed = l.0.0; trees = f.0.0 }, f.0.1) in
+    let made : RecordCounts × List ℕ = (record { triangles = t.0.0; rays = r.0.0; listed = l.0.0; trees = f.0.0 }, f.0.1) in
     let t' = bind_ok _ _ t.0 t.1 in
     let g = passed_ok _ _ t'.0 t.0 t'.2 in
     let t0 = number_takes w32 (2 ^ 32) wide32 total bytes t'.0 fits t'.1 in
@@ -87,9 +87,9 @@ counts_take points total bytes x fits e =
     let t2 = number_takes w32 (2 ^ 32) wide32 total r.0.1 l.0 t1.0.rest_fits l.1 in
     let t3 = number_takes w32 (2 ^ 32) wide32 total l.0.1 f.0 t2.0.rest_fits f.1 in
     let taken = Takes-then bytes (u32 t.0.0 ++ u32 r.0.0 ++ u32 l.0.0) l.0.1 (u32 f.0.0) f.0.1 (Takes-then bytes (u32 t.0.0 ++ u32 r.0.0) r.0.1 (u32 l.0.0) l.0.1 (Takes-then bytes (u32 t.0.0) t.0.1 (u32 r.0.0) r.0.1 both.0 t1.0) t2.0) t3.0 in
-    subst (λ (y : Counts × List ℕ). Takes bytes (count_bytes y.0) y.1 × FitCounts points y.0) {x = made} (ok_is made x f.2) (taken, record { triangles = both.1; rays = t1.1; listed = t2.1; trees = t3.1 })
+    subst (λ (y : RecordCounts × List ℕ). Takes bytes (count_bytes y.0) y.1 × FitCounts points y.0) {x = made} (ok_is made x f.2) (taken, record { triangles = both.1; rays = t1.1; listed = t2.1; trees = t3.1 })
 
-pub counts_again : (points total : ℕ) (c : Counts) (rest : List ℕ) → FitCounts points c → counts_at points total (count_bytes c ++ rest) ≡ Ok (c, rest)
+pub counts_again : (points total : ℕ) (c : RecordCounts) (rest : List ℕ) → FitCounts points c → counts_at points total (count_bytes c ++ rest) ≡ Ok (c, rest)
 unfolding counts_at triangle_count_at
 counts_again points total c rest fits =
     rw (
@@ -179,7 +179,7 @@ trees_fit sizes (t ∷ ts) h g = (record { source = h.0.0; count = g.0.count; no
 
 -- ---- the laws
 
-pub reading_takes : (sizes : Sizes) (bytes : List ℕ) (c : CertParts) → AreSmall sizes → IsBytes bytes → reading sizes bytes ≡ Ok c → Spells sizes bytes c
+pub reading_takes : (sizes : Sizes) (bytes : List ℕ) (c : CertParts) → AreSmall sizes → IsBytes bytes → reading sizes bytes ≡ Ok c → SpellsOne sizes bytes c
 unfolding reading spelling
 reading_takes sizes bytes c small fits e =
     let n = length bytes in
@@ -197,9 +197,9 @@ reading_takes sizes bytes c small fits e =
     let tr = records_take (ray_at sizes n) (λ x. Some x) ray_bytes (FitsPairRay sizes) RayAfter (ray_takes sizes n) k.0.0.rays None t.0.1 r.0 tt'.takes.rest_fits r.1 in
     let tl = records_take (pair_at sizes n) (λ x. Some x) pair_bytes (IsPairInRange sizes) PairAfter (pair_takes sizes n) k.0.0.listed None r.0.1 l.0 tr.takes.rest_fits l.1 in
     let td = records_take (tree_at sizes n) (λ x. Some x.source) tree_bytes (FitsTree sizes) TreeAfter (tree_takes sizes n) k.0.0.trees None l.0.1 d.0 tl.takes.rest_fits d.1 in
-    let counts : Counts = record { triangles = length t.0.0; rays = length r.0.0; listed = length l.0.0; trees = length d.0.0 } in
+    let counts : RecordCounts = record { triangles = length t.0.0; rays = length r.0.0; listed = length l.0.0; trees = length d.0.0 } in
     let same : k.0.0 ≡ counts = counts_same k.0.0 (length t.0.0) (length r.0.0) (length l.0.0) (length d.0.0) (sym tt'.count) (sym tr.count) (sym tl.count) (sym td.count) in
-    let counted : Takes f.0 (count_bytes counts) k.0.1 = subst (λ (x : Counts). Takes f.0 (count_bytes x) k.0.1) same tk.0 in
+    let counted : Takes f.0 (count_bytes counts) k.0.1 = subst (λ (x : RecordCounts). Takes f.0 (count_bytes x) k.0.1) same tk.0 in
     let e0 = Takes-then bytes (front_bytes sizes) f.0 (count_bytes counts) k.0.1 tf counted in
     let e1 = Takes-then bytes (front_bytes sizes ++ count_bytes counts) k.0.1 (flat_map triangle_bytes t.0.0) t.0.1 e0 tt'.takes in
     let e2 = Takes-then bytes (front_bytes sizes ++ count_bytes counts ++ flat_map triangle_bytes t.0.0) t.0.1 (flat_map ray_bytes r.0.0) r.0.1 e1 tr.takes in
@@ -208,7 +208,7 @@ reading_takes sizes bytes c small fits e =
     let nothing : d.0.1 ≡ [] = nil_from_length d.0.1 (eqb-true _ _ g.0) in
     let whole : bytes ≡ spelling made = e4.parts ∙ ap (λ (x : List ℕ). (front_bytes sizes ++ count_bytes counts ++ flat_map triangle_bytes t.0.0 ++ flat_map ray_bytes r.0.0 ++ flat_map pair_bytes l.0.0 ++ flat_map tree_bytes d.0.0) ++ x) nothing ∙ append-nil (front_bytes sizes ++ count_bytes counts ++ flat_map triangle_bytes t.0.0 ++ flat_map ray_bytes r.0.0 ++ flat_map pair_bytes l.0.0 ++ flat_map tree_bytes d.0.0) in
     let above = ascends_of_chain (triangle_at sizes n) (λ x. Some x) triangle_bytes (FitsLabelled sizes) TriangleAfter (λ x y z. above_carries x.triangle y.triangle z.triangle) None t.0.0 tt'.chain in
-    let in_order : IsInOrder made = record {
+    let in_order : IsOneInOrder made = record {
       few = omega (arith, tk.1.triangles, tt'.count);
       triangles = triangles_are sizes t.0.0 tt'.fit above;
       sectors = sectors_are sizes t.0.0 tt'.fit;
@@ -219,23 +219,23 @@ reading_takes sizes bytes c small fits e =
       trees = tree_ranges sizes d.0.0 td.fit;
       trees_ascend = ascends_of_chain (tree_at sizes n) (λ x. Some x.source) tree_bytes (FitsTree sizes) TreeAfter source_carries None d.0.0 td.chain;
     } in
-    subst (λ (x : CertParts). Spells sizes bytes x) {x = made} g.1 (record {
+    subst (λ (x : CertParts). SpellsOne sizes bytes x) {x = made} g.1 (record {
       sized = refl;
       in_order = in_order;
       fits = record { sectors = small.sectors; points = small.points; lines = small.lines; rays = rays_fit sizes r.0.0 tr.fit; trees = fields_fit sizes d.0.0 td.fit };
       spelled = whole;
     })
   where
-    counts_same : (k : Counts) (a b c d : ℕ) → k.triangles ≡ a → k.rays ≡ b → k.listed ≡ c → k.trees ≡ d → k ≡ record { triangles = a; rays = b; listed = c; trees = d }
+    counts_same : (k : RecordCounts) (a b c d : ℕ) → k.triangles ≡ a → k.rays ≡ b → k.listed ≡ c → k.trees ≡ d → k ≡ record { triangles = a; rays = b; listed = c; trees = d }
     counts_same k a b c d p q r s = rw (← p, ← q, ← r, ← s) refl
 
-pub spelled_again : (c : CertParts) → IsInOrder c → FitsFields c → reading c.sizes (spelling c) ≡ Ok c
+pub spelled_again : (c : CertParts) → IsOneInOrder c → FitsFields c → reading c.sizes (spelling c) ≡ Ok c
 unfolding reading spelling
 spelled_again c is fits =
     let n = length (spelling c) in
     let s = c.sizes in
     let small : AreSmall s = record { sectors = fits.sectors; points = fits.points; lines = fits.lines } in
-    let counts : Counts = record { triangles = length c.triangles; rays = length c.rays; listed = length c.listed; trees = length c.trees } in
+    let counts : RecordCounts = record { triangles = length c.triangles; rays = length c.rays; listed = length c.listed; trees = length c.trees } in
     let fit_counts : FitCounts s.points counts = record { triangles = is.few; rays = few_rays s c.rays fits.sectors is.rays is.rays_ascend; listed = few_pairs s c.listed fits.sectors is.listed is.listed_ascend; trees = few_trees s c.trees fits.sectors is.trees is.trees_ascend } in
     let ts = flat_map triangle_bytes c.triangles in
     let rs = flat_map ray_bytes c.rays in
@@ -260,6 +260,6 @@ spelled_again c is fits =
     in_parts : (f k t r p d : List ℕ) → f ++ k ++ t ++ r ++ p ++ d ≡ f ++ (k ++ (t ++ (r ++ (p ++ (d ++ [])))))
     in_parts f k t r p d = rw (append-nil d) (simp append_assoc)
 
-pub spells_again : (sizes : Sizes) (bytes : List ℕ) (c : CertParts) → Spells sizes bytes c → reading sizes bytes ≡ Ok c
+pub spells_again : (sizes : Sizes) (bytes : List ℕ) (c : CertParts) → SpellsOne sizes bytes c → reading sizes bytes ≡ Ok c
 spells_again sizes bytes c s =
     subst (λ (z : Sizes). reading z bytes ≡ Ok c) s.sized (subst (λ (b : List ℕ). reading c.sizes b ≡ Ok c) (sym s.spelled) (spelled_again c s.in_order s.fits))

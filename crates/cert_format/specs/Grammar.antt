@@ -45,7 +45,7 @@ abbrev pub IsTreeInRange : Sizes → Tree → Type 0
 IsTreeInRange sizes t = (t.source < sizes.sectors) × AllByRecursion IsNodeInOrder t.nodes
 
 -- the ranges and orders of a certificate
-pub record IsInOrder (c : CertParts) : Type 0 where
+pub record IsOneInOrder (c : CertParts) : Type 0 where
   pub few : length c.triangles ≤ most_triangles c.sizes.points
   pub triangles : AreTriangles c.sizes.points (map (λ (l : Labelled). l.triangle) c.triangles)
   pub sectors : AllByRecursion (λ (l : Labelled). l.sector < c.sizes.sectors) c.triangles
@@ -94,8 +94,8 @@ u32 n = to_le_bytes w32 n
 abbrev pub u64 : ℕ → List ℕ
 u64 n = to_le_bytes w64 n
 
-abbrev pub side_number : Side → ℕ
-side_number s = cond s.left (s.line + 32768) s.line
+abbrev pub side_code : Side → ℕ
+side_code s = cond s.left (s.line + 32768) s.line
 
 abbrev pub triangle_bytes : Labelled → List ℕ
 triangle_bytes l = u16 l.triangle.p ++ u16 l.triangle.q ++ u16 l.triangle.r ++ u16 l.sector
@@ -105,7 +105,7 @@ pair_bytes p = u16 p.a ++ u16 p.b
 
 -- the two sides and the three numbers of a ray
 abbrev pub line_bytes : Ray → List ℕ
-line_bytes r = u16 (side_number r.first) ++ u16 (side_number r.last)
+line_bytes r = u16 (side_code r.first) ++ u16 (side_code r.last)
     ++ u32 (cast_unsigned w32 r.a) ++ u32 (cast_unsigned w32 r.b) ++ u64 (cast_unsigned w64 r.c)
 
 abbrev pub ray_bytes : PairRay → List ℕ
@@ -129,8 +129,8 @@ unfoldable pub spelling : CertParts → List ℕ
 spelling c = header_bytes c ++ flat_map triangle_bytes c.triangles ++ flat_map ray_bytes c.rays ++ flat_map pair_bytes c.listed ++ flat_map tree_bytes c.trees
 
 -- the bytes spell the certificate, whose sizes are these
-pub record Spells (sizes : Sizes) (bytes : List ℕ) (c : CertParts) : Type 0 where
+pub record SpellsOne (sizes : Sizes) (bytes : List ℕ) (c : CertParts) : Type 0 where
   pub sized : c.sizes ≡ sizes
-  pub in_order : IsInOrder c
+  pub in_order : IsOneInOrder c
   pub fits : FitsFields c
   pub spelled : bytes ≡ spelling c

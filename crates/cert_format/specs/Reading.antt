@@ -24,13 +24,13 @@ abbrev pub ◌>>=◌ : {A B : Type 0} → Result A CertFault → (A → Result B
 (Err e) >>= f = Err e
 
 -- the answer of a call is this one, unless memory ran out
-abbrev pub Fails : {Y : Type 0} → CertFault → Result Y CertFault → Type 0
-Fails (faults.Memory _) read = Unit {0}
-Fails f read = read ≡ Err f
+abbrev pub FailsCert : {Y : Type 0} → CertFault → Result Y CertFault → Type 0
+FailsCert (faults.Memory _) read = Unit {0}
+FailsCert f read = read ≡ Err f
 
-abbrev pub Gives : {X Y : Type 0} → (X → Y) → Result X CertFault → Result Y CertFault → Type 0
-Gives view (Ok x) read = read ≡ Ok (view x)
-Gives view (Err e) read = Fails e read
+abbrev pub GivesCert : {X Y : Type 0} → (X → Y) → Result X CertFault → Result Y CertFault → Type 0
+GivesCert view (Ok x) read = read ≡ Ok (view x)
+GivesCert view (Err e) read = FailsCert e read
 
 -- the answer of a call that takes no memory is this one
 abbrev pub GivesExactly : {X Y : Type 0} → (X → Y) → Result X CertFault → Result Y CertFault → Type 0
@@ -103,9 +103,9 @@ triangle_at sizes total last bytes = do
   passed (nat_lt p.0 q.0 && nat_lt p.0 r.0 && triangle_after last (record { p = p.0; q = q.0; r = r.0 })) (faults.NotSorted (begins_at total bytes))
       (record { triangle = record { p = p.0; q = q.0; r = r.0 }; sector = sector.0 }, sector.1)
 
-abbrev pub pair_of : Option PairRay → Option Pair
-pair_of None = None
-pair_of (Some r) = Some r.pair
+abbrev pub pair_if_any : Option PairRay → Option Pair
+pair_if_any None = None
+pair_if_any (Some r) = Some r.pair
 
 -- two sides and the three numbers of a ray
 unfoldable pub sight_line_at : ℕ → ℕ → List ℕ → Result (Ray × List ℕ) CertFault
@@ -122,7 +122,7 @@ ray_at sizes total before bytes = do
   from ← number_below sizes.sectors total bytes
   to ← number_below sizes.sectors total from.1
   ray ← sight_line_at sizes.lines total to.1
-  passed (nat_lt from.0 to.0 && pair_after (pair_of before) (record { a = from.0; b = to.0 })) (faults.NotSorted (begins_at total bytes))
+  passed (nat_lt from.0 to.0 && pair_after (pair_if_any before) (record { a = from.0; b = to.0 })) (faults.NotSorted (begins_at total bytes))
       (record { pair = record { a = from.0; b = to.0 }; ray = ray.0 }, ray.1)
 
 unfoldable pub pair_at : Sizes → ℕ → Option Pair → List ℕ → Result (Pair × List ℕ) CertFault
@@ -204,13 +204,13 @@ trees_at sizes total = records_at (tree_at sizes total) (λ t. Some t.source)
 -- ---- the whole
 
 -- the number that the four letters of the magic spell
-abbrev pub magic : ℕ
-magic = 1413698372
+abbrev pub cert_magic : ℕ
+cert_magic = 1413698372
 
 unfoldable pub magic_at : ℕ → List ℕ → Result (List ℕ) CertFault
 magic_at total bytes = do
   n ← number_at w32 total bytes
-  passed (n.0 == magic) faults.BadMagic n.1
+  passed (n.0 == cert_magic) faults.BadMagic n.1
 
 unfoldable pub version_at : ℕ → List ℕ → Result (List ℕ) CertFault
 version_at total bytes = do
@@ -233,13 +233,13 @@ front_at sizes total bytes = do
   number_known sizes.lines total points
 
 -- how many records there are of each kind
-pub record Counts : Type 0 where
+pub record RecordCounts : Type 0 where
   pub triangles : ℕ
   pub rays : ℕ
   pub listed : ℕ
   pub trees : ℕ
 
-unfoldable pub counts_at : ℕ → ℕ → List ℕ → Result (Counts × List ℕ) CertFault
+unfoldable pub counts_at : ℕ → ℕ → List ℕ → Result (RecordCounts × List ℕ) CertFault
 counts_at points total bytes = do
   triangles ← triangle_count_at points total bytes
   rays ← number_at w32 total triangles.1

@@ -42,22 +42,22 @@ pub struct Cert {
 
 impl Model for Cert {
     ghost use Rattle.cert_format.specs.Parts.{CertParts};
-    ghost use Rattle.cert_format.specs.Grammar.{IsInOrder};
+    ghost use Rattle.cert_format.specs.Grammar.{IsOneInOrder};
 
     ghost Value = { CertParts };
 
     ghost view = { λ c. record { sizes = c.sizes; triangles = c.triangles; rays = c.rays; listed = c.listed; trees = c.trees } };
 
-    ghost invariant = { λ c. IsInOrder (record { sizes = c.sizes; triangles = c.triangles; rays = c.rays; listed = c.listed; trees = c.trees }) };
+    ghost invariant = { λ c. IsOneInOrder (record { sizes = c.sizes; triangles = c.triangles; rays = c.rays; listed = c.listed; trees = c.trees }) };
 }
 
 impl Cert {
-    ghost use Rattle.cert_format.specs.Grammar.{IsInOrder};
+    ghost use Rattle.cert_format.specs.Grammar.{IsOneInOrder};
 
     /// The labelled triangles, in order.
     pub fn triangles(&self) -> &[Labelled]
         ensures list { result.now ≡ self.now.triangles }
-        ensures in_order { IsInOrder self.now }
+        ensures in_order { IsOneInOrder self.now }
     {
         self.triangles.as_slice()
     }
@@ -65,7 +65,7 @@ impl Cert {
     /// The rays, by their pairs.
     pub fn rays(&self) -> &[PairRay]
         ensures list { result.now ≡ self.now.rays }
-        ensures in_order { IsInOrder self.now }
+        ensures in_order { IsOneInOrder self.now }
     {
         self.rays.as_slice()
     }
@@ -73,7 +73,7 @@ impl Cert {
     /// The listed pairs, in order.
     pub fn listed(&self) -> &[Pair]
         ensures list { result.now ≡ self.now.listed }
-        ensures in_order { IsInOrder self.now }
+        ensures in_order { IsOneInOrder self.now }
     {
         self.listed.as_slice()
     }
@@ -81,7 +81,7 @@ impl Cert {
     /// The trees, by their sources.
     pub fn trees(&self) -> &[Tree]
         ensures list { result.now ≡ self.now.trees }
-        ensures in_order { IsInOrder self.now }
+        ensures in_order { IsOneInOrder self.now }
     {
         self.trees.as_slice()
     }

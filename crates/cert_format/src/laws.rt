@@ -3,10 +3,10 @@
 ghost use Rattle.std.specs.Prelude.{◌≡◌, ℕ, List};
 ghost use Rattle.cert_format.specs.declared.cert.Sizes.{Sizes};
 ghost use Rattle.cert_format.specs.Parts.{CertParts};
-ghost use Rattle.cert_format.specs.Grammar.{Spells};
+ghost use Rattle.cert_format.specs.Grammar.{SpellsOne};
 
 /// No bytes spell two certificates, and no certificate has two spellings.
 pub fn one_spelling()
-    ensures certificate { (sizes : Sizes) (bytes : List ℕ) (c d : CertParts) → Spells sizes bytes c → Spells sizes bytes d → c ≡ d }
-    ensures bytes { (sizes other : Sizes) (bytes more : List ℕ) (c : CertParts) → Spells sizes bytes c → Spells other more c → bytes ≡ more }
+    ensures certificate { (sizes : Sizes) (bytes : List ℕ) (c d : CertParts) → SpellsOne sizes bytes c → SpellsOne sizes bytes d → c ≡ d }
+    ensures bytes { (sizes other : Sizes) (bytes more : List ℕ) (c : CertParts) → SpellsOne sizes bytes c → SpellsOne other more c → bytes ≡ more }
 {}

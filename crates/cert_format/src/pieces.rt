@@ -1,7 +1,7 @@
 //! The spelling of a certificate in pieces of any size. Nothing here takes memory.
 
 ghost use Rattle.std.specs.Prelude.{◌≡◌, ◌↔◌, ◌+◌, ◌-◌, ◌<◌, ◌≤◌, [], ◌++◌, length, take, drop, min, false, IsTrue};
-ghost use Rattle.cert_format.specs.Grammar.{Spells};
+ghost use Rattle.cert_format.specs.Grammar.{SpellsOne};
 ghost use Rattle.cert_format.specs.Pieces.{left_bytes};
 
 use crate::cert::{Cert, Labelled};
@@ -167,7 +167,7 @@ impl<'a> Model for Printer<'a> {
 impl<'a> Printer<'a> {
     /// Before the first piece.
     pub fn new(cert: &'a Cert) -> Printer<'a>
-        ensures { Spells cert.now.sizes result cert.now }
+        ensures { SpellsOne cert.now.sizes result cert.now }
     {
         let rays = cert.rays();
         let trees = cert.trees();

@@ -2,7 +2,7 @@
 //! passed their ranges.
 
 ghost use Rattle.std.specs.Prelude.{◌≡◌};
-ghost use Rattle.cert_format.specs.Reading.{GivesExactly, pair_after, pair_of, triangle_after, triangle_at, sight_line_at, ray_at, pair_at};
+ghost use Rattle.cert_format.specs.Reading.{GivesExactly, pair_after, pair_if_any, triangle_after, triangle_at, sight_line_at, ray_at, pair_at};
 
 use crate::cert::{Labelled, Sizes};
 use crate::fields::{i32_at, i64_at, place, point_at, side_of, u16_below};
@@ -30,7 +30,7 @@ fn is_pair_behind(last: Option<Pair>, p: Pair) -> bool
 }
 
 fn pair_before(last: Option<PairRay>) -> Option<Pair>
-    ensures { result ≡ pair_of last }
+    ensures { result ≡ pair_if_any last }
 {
     match last {
         None => None,

@@ -2,7 +2,7 @@
 
 ghost use Rattle.std.specs.Prelude.{◌≡◌, ◌<◌, ◌^◌, ◌++◌};
 ghost use Rattle.block_evidence.specs.SightTree.Spelling.{u16};
-ghost use Rattle.cert_format.specs.Grammar.{AreSmall, HasShortSides, side_number, u64, triangle_bytes, pair_bytes, line_bytes, ray_bytes, front_bytes, count_bytes, header_bytes};
+ghost use Rattle.cert_format.specs.Grammar.{AreSmall, HasShortSides, side_code, u64, triangle_bytes, pair_bytes, line_bytes, ray_bytes, front_bytes, count_bytes, header_bytes};
 
 use crate::cert::{Cert, Counts, Labelled, Sizes};
 use sight_names::{Pair, PairRay, Ray, Side};
@@ -82,7 +82,7 @@ pub fn pair_of(pair: &Pair) -> [u8; 4]
 
 fn number_of(side: Side) -> u16
     requires { side.line < 2 ^ 15 }
-    ensures { result ≡ side_number side }
+    ensures { result ≡ side_code side }
 {
     if side.left {
         side.line + 32_768

@@ -1,7 +1,7 @@
 //! The whole spelling of a certificate of version 1.
 
 ghost use Rattle.std.specs.Prelude.{IfOk};
-ghost use Rattle.cert_format.specs.Grammar.{Spells};
+ghost use Rattle.cert_format.specs.Grammar.{SpellsOne};
 
 use crate::cert::Cert;
 use crate::cert_groups::{AnyPrinter, all_pieces, room_of};
@@ -10,7 +10,7 @@ use std::alloc::Global;
 
 /// The one spelling of the certificate.
 pub fn print(alloc: Global, cert: &Cert) -> Result<Vec<u8>, Memory>
-    ensures { IfOk result (λ v. Spells cert.now.sizes v.items cert.now) }
+    ensures { IfOk result (λ v. SpellsOne cert.now.sizes v.items cert.now) }
 {
     all_pieces(alloc, room_of(cert), AnyPrinter::of_one(cert))
 }

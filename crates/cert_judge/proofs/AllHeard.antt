@@ -14,20 +14,20 @@ use Rattle.certificates.specs.declared.cert_parts.part.Part.TheVariants.{Triangl
 use Rattle.cert_format.specs.Parts.{CertParts}
 use Rattle.cert_format.specs.declared.cert_groups.cert.AnyCert.{AnyCert}
 use Rattle.cert_format.specs.declared.cert_groups.cert.AnyCert.TheVariants.{One, Two}
-use Rattle.certificates.specs.CertParts.Parts.{tree_parts, parts_of, any_parts_of}
+use Rattle.certificates.specs.CertParts.Parts.{tree_parts, parts_of_listing, any_parts_of}
 use Rattle.cert_checker.specs.TreeJudge.Walked.{with_node, with_nodes}
-use Rattle.cert_judge.specs.Heard.{Heard, nothing, with_part, node_parts, heard_from}
+use Rattle.cert_judge.specs.Heard.{PartsHeard, nothing_heard, with_part, node_parts, heard_from}
 use Rattle.cert_judge.specs.Whole.{IsAllOf}
 
-pub heard_one_more : (h : Heard) (parts : List Part) (part : Part) → heard_from h (parts ++ part ∷ []) ≡ with_part (heard_from h parts) part
+pub heard_one_more : (h : PartsHeard) (parts : List Part) (part : Part) → heard_from h (parts ++ part ∷ []) ≡ with_part (heard_from h parts) part
 heard_one_more h [] part = refl
 heard_one_more h (first ∷ parts) part = heard_one_more (with_part h first) parts part
 
-pub heard_both : (h : Heard) (parts more : List Part) → heard_from h (parts ++ more) ≡ heard_from (heard_from h parts) more
+pub heard_both : (h : PartsHeard) (parts more : List Part) → heard_from h (parts ++ more) ≡ heard_from (heard_from h parts) more
 heard_both h [] more = refl
 heard_both h (part ∷ parts) more = heard_both (with_part h part) parts more
 
-abbrev made : List Labelled → Bool → List PairRay → List Pair → List Tree → Option Tree → Heard
+abbrev made : List Labelled → Bool → List PairRay → List Pair → List Tree → Option Tree → PartsHeard
 made ts b rs ps front tree = record { triangles = ts; closed = b; rays = rs; listed = ps; front = front; tree = tree }
 
 triangles_heard : (ts ls : List Labelled) (rs : List PairRay) (ps : List Pair) (front : List Tree) (tree : Option Tree) → heard_from (made ts false rs ps front tree) (map (λ t. Triangle t) ls) ≡ made (ts ++ ls) false rs ps front tree
@@ -50,7 +50,7 @@ nodes_heard ts rs ps front source done [] = ap (λ (us : List Node). made ts tru
 nodes_heard ts rs ps front source done (n ∷ ns) = nodes_heard ts rs ps front source (done ++ n ∷ []) ns ∙ ap (λ (us : List Node). made ts true rs ps front (Some (grown source us))) (append_assoc done (n ∷ []) ns)
 
 -- some list of trees that have ended, and a last one, are these trees
-record TreesHeard (ts : List Labelled) (rs : List PairRay) (ps : List Pair) (trees : List Tree) (h : Heard) : Type 0 where
+record TreesHeard (ts : List Labelled) (rs : List PairRay) (ps : List Pair) (trees : List Tree) (h : PartsHeard) : Type 0 where
   closed : Bool
   front : List Tree
   tree : Option Tree
@@ -66,23 +66,23 @@ trees_heard b ts rs ps front tree (t ∷ more) =
       closed = h.closed;
       front = h.front;
       tree = h.tree;
-      is = heard_both (made ts b rs ps front tree) (tree_parts t) (flat_map tree_parts more) ∙ ap (λ (g : Heard). heard_from g (flat_map tree_parts more)) (nodes_heard ts rs ps (front ++ option_to_list tree) t.source [] t.nodes) ∙ h.is;
+      is = heard_both (made ts b rs ps front tree) (tree_parts t) (flat_map tree_parts more) ∙ ap (λ (g : PartsHeard). heard_from g (flat_map tree_parts more)) (nodes_heard ts rs ps (front ++ option_to_list tree) t.source [] t.nodes) ∙ h.is;
       all = h.all ∙ append_assoc (front ++ option_to_list tree) (t ∷ []) more;
     }
 
 -- the triangles, rays, listed pairs and trees of these lists
-record AreListsHeard (c : CertParts) (h : Heard) : Type 0 where
+record AreListsHeard (c : CertParts) (h : PartsHeard) : Type 0 where
   triangles : h.triangles ≡ c.triangles
   rays : h.rays ≡ c.rays
   listed : h.listed ≡ c.listed
   trees : h.front ++ option_to_list h.tree ≡ c.trees
 
-lists_heard : (c : CertParts) → AreListsHeard c (heard_from nothing (parts_of c))
+lists_heard : (c : CertParts) → AreListsHeard c (heard_from nothing_heard (parts_of_listing c))
 lists_heard c = record {
-  triangles = ap (λ (h : Heard). h.triangles) all;
-  rays = ap (λ (h : Heard). h.rays) all;
-  listed = ap (λ (h : Heard). h.listed) all;
-  trees = ap (λ (h : Heard). h.front ++ option_to_list h.tree) all ∙ trees.all;
+  triangles = ap (λ (h : PartsHeard). h.triangles) all;
+  rays = ap (λ (h : PartsHeard). h.rays) all;
+  listed = ap (λ (h : PartsHeard). h.listed) all;
+  trees = ap (λ (h : PartsHeard). h.front ++ option_to_list h.tree) all ∙ trees.all;
 }
   where
     rays : (b : Bool) × (heard_from (made c.triangles false [] [] [] None) (map (λ r. Ray r) c.rays) ≡ made c.triangles b c.rays [] [] None)
@@ -94,16 +94,16 @@ lists_heard c = record {
     trees : TreesHeard c.triangles c.rays c.listed c.trees (heard_from (made c.triangles listed.0 c.rays c.listed [] None) (flat_map tree_parts c.trees))
     trees = trees_heard listed.0 c.triangles c.rays c.listed [] None c.trees
 
-    all : heard_from nothing (parts_of c) ≡ made c.triangles trees.closed c.rays c.listed trees.front trees.tree
-    all = heard_both nothing (map (λ t. Triangle t) c.triangles) (map (λ r. Ray r) c.rays ++ (map (λ p. Listed p) c.listed ++ flat_map tree_parts c.trees))
-        ∙ ap (λ (h : Heard). heard_from h (map (λ r. Ray r) c.rays ++ (map (λ p. Listed p) c.listed ++ flat_map tree_parts c.trees))) (triangles_heard [] c.triangles [] [] [] None)
+    all : heard_from nothing_heard (parts_of_listing c) ≡ made c.triangles trees.closed c.rays c.listed trees.front trees.tree
+    all = heard_both nothing_heard (map (λ t. Triangle t) c.triangles) (map (λ r. Ray r) c.rays ++ (map (λ p. Listed p) c.listed ++ flat_map tree_parts c.trees))
+        ∙ ap (λ (h : PartsHeard). heard_from h (map (λ r. Ray r) c.rays ++ (map (λ p. Listed p) c.listed ++ flat_map tree_parts c.trees))) (triangles_heard [] c.triangles [] [] [] None)
         ∙ heard_both (made c.triangles false [] [] [] None) (map (λ r. Ray r) c.rays) (map (λ p. Listed p) c.listed ++ flat_map tree_parts c.trees)
-        ∙ ap (λ (h : Heard). heard_from h (map (λ p. Listed p) c.listed ++ flat_map tree_parts c.trees)) rays.1
+        ∙ ap (λ (h : PartsHeard). heard_from h (map (λ p. Listed p) c.listed ++ flat_map tree_parts c.trees)) rays.1
         ∙ heard_both (made c.triangles rays.0 c.rays [] [] None) (map (λ p. Listed p) c.listed) (flat_map tree_parts c.trees)
-        ∙ ap (λ (h : Heard). heard_from h (flat_map tree_parts c.trees)) listed.1
+        ∙ ap (λ (h : PartsHeard). heard_from h (flat_map tree_parts c.trees)) listed.1
         ∙ trees.is
 
-pub all_heard : (c : AnyCert) → IsAllOf c (heard_from nothing (any_parts_of c).1)
+pub all_heard : (c : AnyCert) → IsAllOf c (heard_from nothing_heard (any_parts_of c).1)
 all_heard (One c) = let h = lists_heard c in record { triangles = h.triangles; rays = h.rays; listed = h.listed; trees = h.trees }
 all_heard (Two c sizes) =
     let h = lists_heard (record { sizes = c.cert.sizes; triangles = c.cert.triangles; rays = c.cert.rays; listed = c.listed; trees = c.cert.trees }) in
@@ -113,10 +113,10 @@ all_heard (Two c sizes) =
 
 module _ (ns : List Node) where
   -- what was heard with these nodes of the last tree
-  abbrev pub with_all : Heard → Heard
+  abbrev pub with_all : PartsHeard → PartsHeard
   with_all h = record { triangles = h.triangles; closed = true; rays = h.rays; listed = h.listed; front = h.front; tree = option_map (with_nodes ns) h.tree }
 
-abbrev same_but : Heard → Bool → Option Tree → Heard
+abbrev same_but : PartsHeard → Bool → Option Tree → PartsHeard
 same_but h closed tree = record { triangles = h.triangles; closed = closed; rays = h.rays; listed = h.listed; front = h.front; tree = tree }
 
 none_more : (o : Option Tree) → option_map (with_nodes []) o ≡ o
@@ -127,18 +127,18 @@ more_then : (n : Node) (ns : List Node) (o : Option Tree) → option_map (with_n
 more_then n ns None = refl
 more_then n ns (Some t) = ap (λ (us : List Node). let u : Option Tree = Some (record { source = t.source; nodes = us }) in u) (append_assoc t.nodes (n ∷ []) ns)
 
-pub last_nodes_heard : (h : Heard) (ns : List Node) → h.closed ≡ true → heard_from h (node_parts ns) ≡ with_all ns h
+pub last_nodes_heard : (h : PartsHeard) (ns : List Node) → h.closed ≡ true → heard_from h (node_parts ns) ≡ with_all ns h
 last_nodes_heard h [] e = ap (λ (b : Bool). same_but h b h.tree) e ∙ ap (same_but h true) (sym (none_more h.tree))
 last_nodes_heard h (n ∷ ns) e = last_nodes_heard (with_part h (OfNode n)) ns refl ∙ ap (same_but h true) (more_then n ns h.tree)
 
-pub same_triangles : (h : Heard) (ns : List Node) → (heard_from h (node_parts ns)).triangles ≡ h.triangles
+pub same_triangles : (h : PartsHeard) (ns : List Node) → (heard_from h (node_parts ns)).triangles ≡ h.triangles
 same_triangles h [] = refl
 same_triangles h (n ∷ ns) = same_triangles (with_part h (OfNode n)) ns
 
-pub same_rays : (h : Heard) (ns : List Node) → (heard_from h (node_parts ns)).rays ≡ h.rays
+pub same_rays : (h : PartsHeard) (ns : List Node) → (heard_from h (node_parts ns)).rays ≡ h.rays
 same_rays h [] = refl
 same_rays h (n ∷ ns) = same_rays (with_part h (OfNode n)) ns
 
-pub same_listed : (h : Heard) (ns : List Node) → (heard_from h (node_parts ns)).listed ≡ h.listed
+pub same_listed : (h : PartsHeard) (ns : List Node) → (heard_from h (node_parts ns)).listed ≡ h.listed
 same_listed h [] = refl
 same_listed h (n ∷ ns) = same_listed (with_part h (OfNode n)) ns

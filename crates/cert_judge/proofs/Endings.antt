@@ -15,12 +15,12 @@ use Rattle.group_checker.specs.declared.verdict.AnyVerdict.{AnyVerdict}
 use Rattle.group_checker.specs.Judged.{IsYesAny, JudgesAny, TellsSightAny}
 use Rattle.group_checker.proofs.AnyTold.{any_exactly, accepted_any_tells}
 use Rattle.cert_judge.specs.declared.judged.Judged.TheVariants as judged
-use Rattle.cert_judge.specs.Judged.{JudgedBy, IsVerdictOf}
+use Rattle.cert_judge.specs.Judged.{JudgedBy, IsVerdictOfListing}
 use Rattle.cert_judge.specs.Whole.{IsCertOf}
 use Rattle.cert_judge.proofs.Intakes.{fault_read}
 
 -- of a verdict it is known which certificate it judges
-pub with_cert : (p : PlanParts) (t : TableParts) (c : AnyCert) (r : Result AnyVerdict Memory) → IsCertOf p t c → IfOk r (JudgesAny p t c) → IfOk r (IsVerdictOf p t c)
+pub with_cert : (p : PlanParts) (t : TableParts) (c : AnyCert) (r : Result AnyVerdict Memory) → IsCertOf p t c → IfOk r (JudgesAny p t c) → IfOk r (IsVerdictOfListing p t c)
 with_cert p t c (Ok v) cert judges = record { cert = cert; judges = judges }
 with_cert p t c (Err e) cert judges = tt
 
@@ -32,7 +32,7 @@ unread_told {C} view read f P e = subst (λ (other : Result C CertFault). Judged
 pub verdict_told : {C : Type 0} (read : Result C CertFault) (c : C) (v : AnyVerdict) (P : C → AnyVerdict → Type 0) → read ≡ Ok c → P c v → JudgedBy read P (judged.Verdict v)
 verdict_told {C} read c v P e h = subst (λ (other : Result C CertFault). JudgedBy other P (judged.Verdict v)) (sym e) h
 
-module _ (p : PlanParts) (is : IsPlan p) (t : TableParts) (c : AnyCert) (v : AnyVerdict) (w : IsVerdictOf p t c v) where
+module _ (p : PlanParts) (is : IsPlan p) (t : TableParts) (c : AnyCert) (v : AnyVerdict) (w : IsVerdictOfListing p t c v) where
   pub accepted_by : IsYesAny v ↔ IsAcceptedAny (map_of p) t.bytes c
   accepted_by = any_exactly p is t w.cert.table c (ap (λ (z : Sizes). z.sectors) w.cert.sized) (ap (λ (z : Sizes). z.points) w.cert.sized) (ap (λ (z : Sizes). z.lines) w.cert.sized) w.cert.in_order v w.judges
 

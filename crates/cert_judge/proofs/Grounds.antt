@@ -27,7 +27,7 @@ use Rattle.group_checker.specs.declared.verdict.AnyFault.TheVariants.{Check}
 use Rattle.group_checker.specs.Grouping.{HasGrouping, IsGroupedMesh, TellsGrouping}
 use Rattle.group_checker.specs.Judged.{any_of, JudgesAny}
 use Rattle.group_checker.proofs.Ending.{grouped_judged}
-use Rattle.cert_judge.specs.OnGround.{HasTriangles, IsFaultOfMesh, IsGroundOf}
+use Rattle.cert_judge.specs.OnGround.{HasTriangles, IsFaultOfMesh, IsListingGroundOf}
 use Rattle.cert_judge.specs.Version.{Groups, core_of, TellsPairsAny}
 use Rattle.cert_judge.specs.Whole.{HasReached, IsEarlyFault, IsFirstEarly}
 use Rattle.cert_checker.proofs.Judging.{later_at_pairs as pair_later}
@@ -52,7 +52,7 @@ has_grouping : (c : CertTwo) (groups : List (List ℕ)) (ls : List Labelled) →
 has_grouping c groups ls e g = record { triangles = ap triangles_in e; labels = ap labels_in e; lists = g }
 
 module _ (p : PlanParts) (groups : List (List ℕ)) (ls : List Labelled) where
-  pub grouped_ground : (over : PlanParts) → IsGroupedMesh p (triangles_in ls) (labels_in ls) groups over → IsGroundOf p over (Some groups) ls
+  pub grouped_ground : (over : PlanParts) → IsGroupedMesh p (triangles_in ls) (labels_in ls) groups over → IsListingGroundOf p over (Some groups) ls
   grouped_ground over w t (One c) v has later rays trees pairs = absurd (none-some groups has.groups_are)
   grouped_ground over w t (Two c sizes) v has later rays trees pairs =
       grouped_judged p t c (triangles_in ls) (labels_in ls) groups over w (has_grouping c groups ls has.triangles (same_Some c.groups groups has.groups_are)) v later rays trees pairs
@@ -100,7 +100,7 @@ module _ (m : Map) (c : CertParts) (reach : Reach) (w : HasReached m c reach) wh
   pair_trees (No (Unproved a b)) k = w.trees
   pair_trees (No (Uncovered a b)) k = w.trees
 
-module _ (p over : PlanParts) (groups : Groups) (ls : List Labelled) (right : IsGroundOf p over groups ls) (t : TableParts) (c : AnyCert) (has : HasTriangles c groups ls) where
+module _ (p over : PlanParts) (groups : Groups) (ls : List Labelled) (right : IsListingGroundOf p over groups ls) (t : TableParts) (c : AnyCert) (has : HasTriangles c groups ls) where
   pub early_judged : (f : CheckFault) → IsFirstEarly (map_of over) (core_of c) f → JudgesAny p t c (any_of (No f))
   early_judged f w = right t c (No f) has (early_later f w.kind) w.rays w.trees (early_pairs (map_of over) t c f w.kind)
 

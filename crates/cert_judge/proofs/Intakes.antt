@@ -12,7 +12,7 @@ use Rattle.reject_bits.specs.Parts.{TableParts}
 use Rattle.cert_format.specs.declared.cert.Sizes.{Sizes}
 use Rattle.cert_format.specs.Grammar.{FitsTree}
 use Rattle.cert_format.specs.Reading.{◌>>=◌}
-use Rattle.cert_format.specs.Sizes.{sizes_of}
+use Rattle.cert_format.specs.Sizes.{sizes_of_plan}
 use Rattle.cert_format.proofs.FieldLaws.{bind_ok, ok_is}
 use Rattle.cert_format.specs.declared.cert_groups.cert.AnyCert.{AnyCert}
 use Rattle.cert_format.specs.declared.cert_groups.cert.AnyCert.TheVariants.{One, Two}
@@ -28,7 +28,7 @@ use Rattle.cert_judge.specs.declared.intake.Intake.{Intake}
 use Rattle.cert_judge.specs.Heard.{node_parts}
 use Rattle.cert_judge.specs.Whole.{IsCertOf}
 use Rattle.cert_judge.specs.Judging.{HasHeard, HasHeardAll}
-use Rattle.cert_judge.specs.Intake.{put_all, AreBytes, IsGoingOn, AreRefused}
+use Rattle.cert_judge.specs.Intake.{put_listing_parts, AreBytes, IsGoingOn, AreRefusedListing}
 use Rattle.cert_judge.specs.Version.{Groups}
 
 -- ---- parts, one behind the other
@@ -36,7 +36,7 @@ use Rattle.cert_judge.specs.Version.{Groups}
 abbrev all_read : Groups → List Part → Result AnyParts CertFault
 all_read groups parts = Ok (groups, parts)
 
-put_one_more : (groups : Groups) (parts : List Part) (part : Part) (left : Result (List Part) CertFault) → put_all groups (parts ++ part ∷ []) left ≡ put_all groups parts (put_before (Some part) left)
+put_one_more : (groups : Groups) (parts : List Part) (part : Part) (left : Result (List Part) CertFault) → put_listing_parts groups (parts ++ part ∷ []) left ≡ put_listing_parts groups parts (put_before (Some part) left)
 put_one_more groups parts part (Ok others) = ap (all_read groups) (append_assoc parts (part ∷ []) others)
 put_one_more groups parts part (Err f) = refl
 
@@ -51,7 +51,7 @@ module _ (p : PlanParts) (t : TableParts) (bytes rest : List ℕ) (k : Intake) (
     parts = w.parts ++ part ∷ [];
     heard = heard;
     given = given ∙ w.given;
-    left = λ more. w.left more ∙ ap (put_all w.groups w.parts) (told more) ∙ sym (put_one_more w.groups w.parts part (parts_left new.reader (behind ++ more)));
+    left = λ more. w.left more ∙ ap (put_listing_parts w.groups w.parts) (told more) ∙ sym (put_one_more w.groups w.parts part (parts_left new.reader (behind ++ more)));
   }
 
   -- or all bytes were taken
@@ -63,16 +63,16 @@ module _ (p : PlanParts) (t : TableParts) (bytes rest : List ℕ) (k : Intake) (
     parts = w.parts;
     heard = subst (HasHeard p t w.groups w.parts) (sym same) w.heard;
     given = ap (λ (b : List ℕ). new.reader.given + length b) (sym none) ∙ given ∙ w.given;
-    left = λ more. w.left more ∙ ap (put_all w.groups w.parts) (told more ∙ ap (λ (b : List ℕ). parts_left new.reader (b ++ more)) none);
+    left = λ more. w.left more ∙ ap (put_listing_parts w.groups w.parts) (told more ∙ ap (λ (b : List ℕ). parts_left new.reader (b ++ more)) none);
   }
 
   -- or a fault was met
-  pub fault_taken : (f : CertFault) → ((more : List ℕ) → parts_left k.reader (rest ++ more) ≡ Err f) → AreRefused p bytes f
-  fault_taken f told more = w.left more ∙ ap (put_all w.groups w.parts) (told more)
+  pub fault_taken : (f : CertFault) → ((more : List ℕ) → parts_left k.reader (rest ++ more) ≡ Err f) → AreRefusedListing p bytes f
+  fault_taken f told more = w.left more ∙ ap (put_listing_parts w.groups w.parts) (told more)
 
 -- ---- nodes, one by one, while the reader stays where the first of them began
 
-put_both : (groups : Groups) (parts more : List Part) (left : Result (List Part) CertFault) → put_all groups parts (put_behind more left) ≡ put_all groups (parts ++ more) left
+put_both : (groups : Groups) (parts more : List Part) (left : Result (List Part) CertFault) → put_listing_parts groups parts (put_behind more left) ≡ put_listing_parts groups (parts ++ more) left
 put_both groups parts more (Ok others) = ap (all_read groups) (sym (append_assoc parts more others))
 put_both groups parts more (Err f) = refl
 
@@ -95,7 +95,7 @@ module _ (p : PlanParts) (t : TableParts) (bytes ahead : List ℕ) (k : Intake) 
         parts = w.parts ++ node_parts ns;
         heard = heard;
         given = omega (arith, given, within, w.given);
-        left = λ more. w.left more ∙ ap (put_all w.groups w.parts) (told more) ∙ put_both w.groups w.parts (node_parts ns) (parts_left new.reader (rest ++ more));
+        left = λ more. w.left more ∙ ap (put_listing_parts w.groups w.parts) (told more) ∙ put_both w.groups w.parts (node_parts ns) (parts_left new.reader (rest ++ more));
       }
     where
       none : 0 + (length ahead - length rest) ≡ length ahead - length rest
@@ -123,14 +123,14 @@ piece_comes p t bytes piece k fit w = record {
   parts = w.parts;
   heard = w.heard;
   given = omega (arith, w.given, length-append bytes piece);
-  left = λ more. ap (reading_any_parts (sizes_of p)) (append_assoc bytes piece more) ∙ w.left (piece ++ more);
+  left = λ more. ap (reading_any_parts (sizes_of_plan p)) (append_assoc bytes piece more) ∙ w.left (piece ++ more);
 }
 
 -- ---- at the end
 
 -- what is said whatever bytes come is said of these
-pub refused_whole : (p : PlanParts) (bytes : List ℕ) (f : CertFault) → AreRefused p bytes f → reading_any_parts (sizes_of p) bytes ≡ Err f
-refused_whole p bytes f w = ap (reading_any_parts (sizes_of p)) (sym (append-nil bytes)) ∙ w []
+pub refused_whole : (p : PlanParts) (bytes : List ℕ) (f : CertFault) → AreRefusedListing p bytes f → reading_any_parts (sizes_of_plan p) bytes ≡ Err f
+refused_whole p bytes f w = ap (reading_any_parts (sizes_of_plan p)) (sym (append-nil bytes)) ∙ w []
 
 -- a fault of the parts is one of the reading
 pub fault_read : {C D : Type 0} (view : C → D) (read : Result C CertFault) (f : CertFault) → (read >>= λ c. Ok (view c)) ≡ Err f → read ≡ Err f
@@ -150,7 +150,7 @@ same_fits p q t u bytes others k w v fits =
     sym (ap (λ (x : TableParts). x.n) w.heard.table) ∙ ap (λ (x : TableParts). x.n) v.heard.table ∙ fits ∙ sym (ap (λ (x : PlanParts). x.sectors) v.heard.plan) ∙ ap (λ (x : PlanParts). x.sectors) w.heard.plan
 
 -- what is read is a certificate of the plan, in order
-cert_of_plan : (p : PlanParts) (t : TableParts) (bytes : List ℕ) (c : AnyCert) → t.n ≡ p.sectors → SpellsAny (sizes_of p) bytes c → IsCertOf p t c
+cert_of_plan : (p : PlanParts) (t : TableParts) (bytes : List ℕ) (c : AnyCert) → t.n ≡ p.sectors → SpellsAny (sizes_of_plan p) bytes c → IsCertOf p t c
 cert_of_plan p t bytes (One c) fits s = record { sized = s.sized; in_order = tt; core = s.in_order; table = fits; counted = trees_counted c.trees s.fits.trees }
 cert_of_plan p t bytes (Two c sizes) fits s = record {
   sized = s.0;
@@ -161,17 +161,17 @@ cert_of_plan p t bytes (Two c sizes) fits s = record {
 }
 
 module _ (p : PlanParts) (t : TableParts) (bytes : List ℕ) (k : Intake) (w : IsGoingOn p t bytes [] k) where
-  whole : reading_any_parts (sizes_of p) bytes ≡ put_all w.groups w.parts (parts_left k.reader [])
-  whole = ap (reading_any_parts (sizes_of p)) (sym (append-nil bytes)) ∙ w.left []
+  whole : reading_any_parts (sizes_of_plan p) bytes ≡ put_listing_parts w.groups w.parts (parts_left k.reader [])
+  whole = ap (reading_any_parts (sizes_of_plan p)) (sym (append-nil bytes)) ∙ w.left []
 
   -- the certificate that was read was heard
-  pub read_at_end : t.n ≡ p.sectors → parts_left k.reader [] ≡ Ok [] → (c : AnyCert) × (any_at (sizes_of p) bytes ≡ Ok c) × HasHeardAll p t c k.judging
+  pub read_at_end : t.n ≡ p.sectors → parts_left k.reader [] ≡ Ok [] → (c : AnyCert) × (any_at (sizes_of_plan p) bytes ≡ Ok c) × HasHeardAll p t c k.judging
   read_at_end fits e =
-      let r = bind_ok (any_at (sizes_of p) bytes) (λ c. Ok (any_parts_of c)) (w.groups, w.parts) (whole ∙ ap (put_all w.groups w.parts) e ∙ ap (all_read w.groups) (append-nil w.parts)) in (
+      let r = bind_ok (any_at (sizes_of_plan p) bytes) (λ c. Ok (any_parts_of c)) (w.groups, w.parts) (whole ∙ ap (put_listing_parts w.groups w.parts) e ∙ ap (all_read w.groups) (append-nil w.parts)) in (
         r.0,
         r.1,
         record {
-          cert = cert_of_plan p t bytes r.0 fits (any_takes (sizes_of p) bytes r.0 w.small w.fit r.1);
+          cert = cert_of_plan p t bytes r.0 fits (any_takes (sizes_of_plan p) bytes r.0 w.small w.fit r.1);
           heard = subst (λ (ps : AnyParts). HasHeard p t ps.0 ps.1 k.judging) (sym (ok_is (any_parts_of r.0) (w.groups, w.parts) r.2)) w.heard;
         },
       )

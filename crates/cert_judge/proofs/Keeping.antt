@@ -3,7 +3,7 @@ use Rattle.std.proofs.Common.{◌≡◌, ℕ, ◌<◌, ◌≤◌, List, length, 
 use Rattle.std.proofs.lemmas.List.Elements.{All-from_recursion}
 use Rattle.sight_names.specs.Limits.{most_triangles}
 use Rattle.sight_names.specs.Mesh.{AreTriangles}
-use Rattle.cert_format.specs.Grammar.{IsInOrder}
+use Rattle.cert_format.specs.Grammar.{IsOneInOrder}
 use Rattle.cert_format.specs.Parts.{CertParts}
 use Rattle.cert_format.specs.declared.cert.Sizes.{Sizes}
 use Rattle.cert_checker.specs.Apart.{triangles_in}
@@ -22,22 +22,22 @@ use Rattle.cert_judge.specs.declared.judging.Judging.{Judging}
 use Rattle.cert_judge.specs.declared.kept.Kept.{Kept}
 use Rattle.cert_judge.specs.declared.on_ground.OnGround.{OnGround}
 use Rattle.cert_judge.specs.declared.stage.Stage.TheVariants.{Gathering, Lost, Broken, Good}
-use Rattle.cert_judge.specs.Heard.{Heard, nothing, closed_at, heard_from}
-use Rattle.cert_judge.specs.Judging.{IsKept, IsKeptWhole, HasHeardAll}
+use Rattle.cert_judge.specs.Heard.{PartsHeard, nothing_heard, closed_at, heard_from}
+use Rattle.cert_judge.specs.Judging.{KeepsListingHeard, IsKeptWhole, HasHeardAll}
 use Rattle.cert_judge.specs.OnGround.{IsOnGround}
-use Rattle.cert_judge.specs.Stage.{AreFit, AreInOrder, AreLabelledBelow, IsStage}
+use Rattle.cert_judge.specs.Stage.{AreFit, AreTrianglesInOrder, AreLabelledBelow, IsStage}
 use Rattle.cert_judge.specs.Version.{Groups, groups_in, core_of}
 use Rattle.cert_judge.specs.Whole.{HasLists, IsCertOf, IsJudgedOn}
 use Rattle.cert_judge.proofs.AllHeard.{all_heard}
 
 -- the triangles of a certificate are in order, and each is of one of its sectors
-pub in_order_at : (points : ℕ) (c : CertParts) → IsInOrder c → c.sizes.points ≡ points → AreInOrder points c.triangles
+pub in_order_at : (points : ℕ) (c : CertParts) → IsOneInOrder c → c.sizes.points ≡ points → AreTrianglesInOrder points c.triangles
 in_order_at points c w e = record {
   triangles = subst (λ (n : ℕ). AreTriangles n (triangles_in c.triangles)) e w.triangles;
   few = subst (λ (n : ℕ). length c.triangles ≤ most_triangles n) e w.few;
 }
 
-pub labelled_at : (count : ℕ) (c : CertParts) → IsInOrder c → c.sizes.sectors ≡ count → AreLabelledBelow count c.triangles
+pub labelled_at : (count : ℕ) (c : CertParts) → IsOneInOrder c → c.sizes.sectors ≡ count → AreLabelledBelow count c.triangles
 labelled_at count c w e = subst (λ (n : ℕ). AreLabelledBelow n c.triangles) e (All-from_recursion (λ (l : Labelled). l.sector < c.sizes.sectors) c.triangles w.sectors)
 
 -- so no certificate is lost
@@ -50,8 +50,8 @@ fits p t (Two c sizes) w =
       labelled_at (length c.groups) c.cert w.core (ap (λ (s : Sizes). s.sectors) w.in_order.grouped),
     )
 
-module _ (p : PlanParts) (t : TableParts) (c : AnyCert) (k closed : Kept) (w : IsKeptWhole p t c k) (closes : (groups : Groups) (h : Heard) → IsKept p groups h k → IsKept p groups (closed_at h) closed) where
-  kept : IsKept p (groups_in c) (closed_at w.heard) closed
+module _ (p : PlanParts) (t : TableParts) (c : AnyCert) (k closed : Kept) (w : IsKeptWhole p t c k) (closes : (groups : Groups) (h : PartsHeard) → KeepsListingHeard p groups h k → KeepsListingHeard p groups (closed_at h) closed) where
+  kept : KeepsListingHeard p (groups_in c) (closed_at w.heard) closed
   kept = closes (groups_in c) w.heard w.kept
 
   lists_of : (groups : Groups) (listed : List Pair) (rays : List PairRay) → groups ≡ closed.groups → listed ≡ closed.listed.items → rays ≡ closed.rays.items → HasLists p t c groups listed rays
@@ -87,5 +87,5 @@ groups_with (Two c sizes) = refl
 -- what a judging keeps that has heard all parts and isn't spent
 pub kept_whole : (p : PlanParts) (t : TableParts) (c : AnyCert) (j : Judging) → HasHeardAll p t c j → j.spent ≡ None → IsKeptWhole j.plan.now j.table.now c j.kept
 kept_whole p t c j w fine =
-    let whole : IsKeptWhole p t c j.kept = record { cert = w.cert; heard = heard_from nothing (any_parts_of c).1; all = all_heard c; kept = subst (λ (gs : Groups). IsKept p gs (heard_from nothing (any_parts_of c).1) j.kept) (groups_with c) (w.heard.kept fine) } in
+    let whole : IsKeptWhole p t c j.kept = record { cert = w.cert; heard = heard_from nothing_heard (any_parts_of c).1; all = all_heard c; kept = subst (λ (gs : Groups). KeepsListingHeard p gs (heard_from nothing_heard (any_parts_of c).1) j.kept) (groups_with c) (w.heard.kept fine) } in
     subst (λ (q : PlanParts). IsKeptWhole q j.table.now c j.kept) (sym w.heard.plan) (subst (λ (u : TableParts). IsKeptWhole p u c j.kept) (sym w.heard.table) whole)

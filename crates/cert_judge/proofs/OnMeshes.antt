@@ -18,7 +18,7 @@ use Rattle.mesh_shape.specs.HalfEdges.HalfEdges.{AreHalfEdges, AreOfGoodMesh}
 use Rattle.cert_checker.specs.TreeJudge.Heard.{HasHeardTrees}
 use Rattle.cert_checker.specs.Apart.{triangles_in, labels_in}
 use Rattle.cert_checker.specs.Judged.{IsRayFaultOf}
-use Rattle.cert_checker.specs.Rays.{AreSightRaysBelow, IsFaultOf}
+use Rattle.cert_checker.specs.Rays.{AreSightRaysBelow, IsCheckFaultOf}
 use Rattle.cert_judge.specs.declared.on_mesh.OnMesh.{OnMesh}
 use Rattle.cert_judge.specs.OnMesh.{IsRayFaultIn, IsOnMesh}
 use Rattle.cert_judge.proofs.Rays.{rays_with, still_wrong}
@@ -41,7 +41,7 @@ module _ (p : PlanParts) (labelled : List Labelled) (rays : List PairRay) (front
   }
 
   -- by what is told of the ray, where none before it was wrong
-  pub with_next_ray : (one : PairRay) (k : OnMesh) → g.fault ≡ None → IfSome k.fault IsRayFaultOf → (AreOfGoodMesh p g.mesh.triangles g.edges → MatchOption k.fault (IsSightRay (map_of p) one.ray one.pair.a one.pair.b) (IsFaultOf (map_of p) one))
+  pub with_next_ray : (one : PairRay) (k : OnMesh) → g.fault ≡ None → IfSome k.fault IsRayFaultOf → (AreOfGoodMesh p g.mesh.triangles g.edges → MatchOption k.fault (IsSightRay (map_of p) one.ray one.pair.a one.pair.b) (IsCheckFaultOf (map_of p) one))
       → k.mesh ≡ g.mesh → k.edges ≡ g.edges → k.trees ≡ g.trees → IsOnMesh p labelled (rays ++ one ∷ []) front tree k
   with_next_ray one k none kind told same_mesh same_edges same_trees = record {
     mesh = subst (λ (x : MeshParts). x.triangles ≡ triangles_in labelled) (sym same_mesh) w.mesh;

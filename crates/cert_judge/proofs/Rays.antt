@@ -8,7 +8,7 @@ use Rattle.sight_names.specs.declared.names.PairRay.{PairRay}
 use Rattle.sight_names.specs.Map.{Map}
 use Rattle.sight_names.specs.Ray.{IsSightRay}
 use Rattle.cert_checker.specs.Judged.{IsRayFaultOf}
-use Rattle.cert_checker.specs.Rays.{AreSightRaysBelow, IsFaultOf}
+use Rattle.cert_checker.specs.Rays.{AreSightRaysBelow, IsCheckFaultOf}
 use Rattle.cert_judge.specs.OnMesh.{IsRayFaultIn}
 use Rattle.math_base.proofs.Lists.{get_pushed, get_before_pushed, pushed_at}
 
@@ -23,7 +23,7 @@ module _ (m : Map) (rays : List PairRay) (one : PairRay) where
     | inr h ↦ subst (λ (q : PairRay). IsSightRay m q.ray q.pair.a q.pair.b) h.1 here
   ]
 
-  pub one_is_wrong : (f : CheckFault) → AreSightRaysBelow m rays (length rays) → IsRayFaultOf f → IsFaultOf m one f → IsRayFaultIn m (rays ++ one ∷ []) f
+  pub one_is_wrong : (f : CheckFault) → AreSightRaysBelow m rays (length rays) → IsRayFaultOf f → IsCheckFaultOf m one f → IsRayFaultIn m (rays ++ one ∷ []) f
   one_is_wrong f below kind fault = record { kind = kind; first = record { place = length rays; ray = one; is = get_pushed rays one; fault = fault; before = λ i r l e. below i r l (before_one i r l e) } }
 
   pub still_wrong : (f : CheckFault) → IsRayFaultIn m rays f → IsRayFaultIn m (rays ++ one ∷ []) f
@@ -39,7 +39,7 @@ module _ (m : Map) (rays : List PairRay) (one : PairRay) where
   }
 
   -- by what is told of the one, where no ray was wrong
-  pub rays_with : (o : Option CheckFault) → AreSightRaysBelow m rays (length rays) → IfSome o IsRayFaultOf → MatchOption o (IsSightRay m one.ray one.pair.a one.pair.b) (IsFaultOf m one)
+  pub rays_with : (o : Option CheckFault) → AreSightRaysBelow m rays (length rays) → IfSome o IsRayFaultOf → MatchOption o (IsSightRay m one.ray one.pair.a one.pair.b) (IsCheckFaultOf m one)
       → MatchOption o (AreSightRaysBelow m (rays ++ one ∷ []) (length (rays ++ one ∷ []))) (IsRayFaultIn m (rays ++ one ∷ []))
   rays_with None below kind told = one_more_sight below told
   rays_with (Some f) below kind told = one_is_wrong f below kind told

@@ -5,7 +5,7 @@ use Rattle.sight_names.specs.Plan.{PlanParts}
 use Rattle.reject_bits.specs.Parts.{TableParts}
 use Rattle.cert_format.specs.Grammar.{AreSmall}
 use Rattle.cert_format.specs.Reading.{◌>>=◌}
-use Rattle.cert_format.specs.Sizes.{sizes_of}
+use Rattle.cert_format.specs.Sizes.{sizes_of_plan}
 use Rattle.certificates.specs.declared.cert_parts.part.Part.{Part}
 use Rattle.certificates.specs.CertParts.Parts.{AnyParts, reading_any_parts}
 use Rattle.certificates.specs.CertParts.Left.{parts_left}
@@ -14,8 +14,8 @@ use Rattle.cert_judge.specs.Judging.{HasHeard}
 use Rattle.cert_judge.specs.Version.{Groups}
 
 -- these groups, these parts, and what is still to come behind them
-abbrev pub put_all : Groups → List Part → Result (List Part) CertFault → Result AnyParts CertFault
-put_all groups parts left = left >>= λ others. Ok (groups, parts ++ others)
+abbrev pub put_listing_parts : Groups → List Part → Result (List Part) CertFault → Result AnyParts CertFault
+put_listing_parts groups parts left = left >>= λ others. Ok (groups, parts ++ others)
 
 abbrev pub AreBytes : List ℕ → Type 0
 AreBytes bytes = (i : ℕ) → slice_index bytes i < 256
@@ -23,26 +23,26 @@ AreBytes bytes = (i : ℕ) → slice_index bytes i < 256
 -- These are all bytes so far, and all but those ahead were taken: the groups and the parts that they gave were heard, and
 -- whatever bytes come behind, the parts of all bytes are these and then those that the reader has still to give.
 pub record IsGoingOn (p : PlanParts) (t : TableParts) (bytes ahead : List ℕ) (k : Intake) : Type 0 where
-  pub small : AreSmall (sizes_of p)
+  pub small : AreSmall (sizes_of_plan p)
   pub fit : AreBytes bytes
   pub groups : Groups
   pub parts : List Part
   pub heard : HasHeard p t groups parts k.judging
   pub given : k.reader.given + length ahead ≡ length bytes
-  pub left : (more : List ℕ) → reading_any_parts (sizes_of p) (bytes ++ more) ≡ put_all groups parts (parts_left k.reader (ahead ++ more))
+  pub left : (more : List ℕ) → reading_any_parts (sizes_of_plan p) (bytes ++ more) ≡ put_listing_parts groups parts (parts_left k.reader (ahead ++ more))
 
 -- whatever bytes come behind, they are no certificate of the plan
-abbrev pub AreRefused : PlanParts → List ℕ → CertFault → Type 0
-AreRefused p bytes f = (more : List ℕ) → reading_any_parts (sizes_of p) (bytes ++ more) ≡ Err f
+abbrev pub AreRefusedListing : PlanParts → List ℕ → CertFault → Type 0
+AreRefusedListing p bytes f = (more : List ℕ) → reading_any_parts (sizes_of_plan p) (bytes ++ more) ≡ Err f
 
 -- all bytes were taken, or the fault that they have is kept
-abbrev pub HasTaken : PlanParts → TableParts → List ℕ → Intake → Type 0
-HasTaken p t bytes k = MatchOption k.fault (IsGoingOn p t bytes [] k) (AreRefused p bytes)
+abbrev pub HasTakenListing : PlanParts → TableParts → List ℕ → Intake → Type 0
+HasTakenListing p t bytes k = MatchOption k.fault (IsGoingOn p t bytes [] k) (AreRefusedListing p bytes)
 
 -- the same of some bytes, for a plan and a table of as many sectors
 pub record IsTaken (k : Intake) : Type 0 where
   pub plan : PlanParts
   pub table : TableParts
   pub bytes : List ℕ
-  pub taken : HasTaken plan table bytes k
+  pub taken : HasTakenListing plan table bytes k
   pub fits : table.n ≡ plan.sectors

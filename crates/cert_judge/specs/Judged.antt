@@ -18,6 +18,6 @@ JudgedBy (Err f) P (judged.Verdict v) = ⊥
 JudgedBy (Err f) P (judged.Unread g) = f ≡ g
 
 -- it is the verdict of a check of this certificate
-pub record IsVerdictOf (p : PlanParts) (t : TableParts) (c : AnyCert) (v : AnyVerdict) : Type 0 where
+pub record IsVerdictOfListing (p : PlanParts) (t : TableParts) (c : AnyCert) (v : AnyVerdict) : Type 0 where
   pub cert : IsCertOf p t c
   pub judges : JudgesAny p t c v

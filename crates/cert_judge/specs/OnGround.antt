@@ -26,8 +26,8 @@ abbrev pub IsFaultOfMesh : PlanParts → Groups → List Labelled → AnyFault �
 IsFaultOfMesh p groups labelled f = (t : TableParts) (c : AnyCert) → HasTriangles c groups labelled → JudgesAny p t c (No f)
 
 -- mesh and groups of each such certificate are right: what is told of its rays, trees and pairs over this plan is the answer
-abbrev pub IsGroundOf : PlanParts → PlanParts → Groups → List Labelled → Type 0
-IsGroundOf p over groups labelled =
+abbrev pub IsListingGroundOf : PlanParts → PlanParts → Groups → List Labelled → Type 0
+IsListingGroundOf p over groups labelled =
     (t : TableParts) (c : AnyCert) (v : Verdict) → HasTriangles c groups labelled → IsLaterVerdict v → JudgesRays (map_of over) (core_of c) v → JudgesTrees (map_of over) (core_of c) v → TellsPairsAny (map_of over) t c v → JudgesAny p t c (any_of v)
 
 -- the plan of groups, or else that of the map
@@ -37,5 +37,5 @@ plan_under p g = unwrap_or g.grouped p
 -- mesh and groups are right, and rays and trees are judged over the plan of the version
 pub record IsOnGround (p : PlanParts) (groups : Groups) (labelled : List Labelled) (rays : List PairRay) (front : List Tree) (tree : Option Tree) (g : OnGround) : Type 0 where
   pub over : plan_under p g ≡ plan_over p groups labelled
-  pub right : IsGroundOf p (plan_under p g) groups labelled
+  pub right : IsListingGroundOf p (plan_under p g) groups labelled
   pub on : IsOnMesh (plan_under p g) labelled rays front tree g.on

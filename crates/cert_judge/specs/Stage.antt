@@ -9,12 +9,12 @@ use Rattle.cert_format.specs.declared.cert.Labelled.{Labelled}
 use Rattle.cert_checker.specs.Apart.{triangles_in}
 use Rattle.cert_judge.specs.declared.stage.Stage.{Stage}
 use Rattle.cert_judge.specs.declared.stage.Stage.TheVariants.{Gathering, Lost, Broken, Good}
-use Rattle.cert_judge.specs.Heard.{Heard}
+use Rattle.cert_judge.specs.Heard.{PartsHeard}
 use Rattle.cert_judge.specs.OnGround.{IsOnGround, IsFaultOfMesh}
 use Rattle.cert_judge.specs.Version.{Groups}
 
 -- triangles between so many points, in order and few enough
-pub record AreInOrder (points : ℕ) (labelled : List Labelled) : Type 0 where
+pub record AreTrianglesInOrder (points : ℕ) (labelled : List Labelled) : Type 0 where
   pub triangles : AreTriangles points (triangles_in labelled)
   pub few : length labelled ≤ most_triangles points
 
@@ -24,25 +24,25 @@ AreLabelledBelow count labelled = All (λ (one : Labelled). one.sector < count) 
 
 -- a certificate may have these triangles and groups
 abbrev pub AreFit : ℕ → Groups → List Labelled → Type 0
-AreFit points None labelled = AreInOrder points labelled
-AreFit points (Some groups) labelled = AreInOrder points labelled × (length groups ≤ most_triangles points) × AreLabelledBelow (length groups) labelled
+AreFit points None labelled = AreTrianglesInOrder points labelled
+AreFit points (Some groups) labelled = AreTrianglesInOrder points labelled × (length groups ≤ most_triangles points) × AreLabelledBelow (length groups) labelled
 
 -- the triangles have come: no certificate has them, or they break a rule of a good mesh or of its groups, or they keep all
-abbrev pub IsClosed : PlanParts → Groups → List Labelled → List PairRay → List Tree → Option Tree → Stage → Type 0
-IsClosed p groups labelled rays front tree Gathering = ⊥
-IsClosed p groups labelled rays front tree Lost = ¬ AreFit (length p.points) groups labelled
-IsClosed p groups labelled rays front tree (Broken f) = IsFaultOfMesh p groups labelled f
-IsClosed p groups labelled rays front tree (Good g) = IsOnGround p groups labelled rays front tree g
+abbrev pub IsStageClosed : PlanParts → Groups → List Labelled → List PairRay → List Tree → Option Tree → Stage → Type 0
+IsStageClosed p groups labelled rays front tree Gathering = ⊥
+IsStageClosed p groups labelled rays front tree Lost = ¬ AreFit (length p.points) groups labelled
+IsStageClosed p groups labelled rays front tree (Broken f) = IsFaultOfMesh p groups labelled f
+IsStageClosed p groups labelled rays front tree (Good g) = IsOnGround p groups labelled rays front tree g
 
 -- no part but triangles has come
-pub record IsFresh (h : Heard) : Type 0 where
+pub record IsStageFresh (h : PartsHeard) : Type 0 where
   pub closed : h.closed ≡ false
   pub rays : h.rays ≡ []
   pub front : h.front ≡ []
   pub tree : h.tree ≡ None
 
-abbrev pub IsStage : PlanParts → Groups → Heard → Stage → Type 0
-IsStage p groups h Gathering = IsFresh h
-IsStage p groups h Lost = (h.closed ≡ true) × IsClosed p groups h.triangles h.rays h.front h.tree Lost
-IsStage p groups h (Broken f) = (h.closed ≡ true) × IsClosed p groups h.triangles h.rays h.front h.tree (Broken f)
-IsStage p groups h (Good g) = (h.closed ≡ true) × IsClosed p groups h.triangles h.rays h.front h.tree (Good g)
+abbrev pub IsStage : PlanParts → Groups → PartsHeard → Stage → Type 0
+IsStage p groups h Gathering = IsStageFresh h
+IsStage p groups h Lost = (h.closed ≡ true) × IsStageClosed p groups h.triangles h.rays h.front h.tree Lost
+IsStage p groups h (Broken f) = (h.closed ≡ true) × IsStageClosed p groups h.triangles h.rays h.front h.tree (Broken f)
+IsStage p groups h (Good g) = (h.closed ≡ true) × IsStageClosed p groups h.triangles h.rays h.front h.tree (Good g)

@@ -12,7 +12,7 @@ use Rattle.face_groups.specs.Regrouped.{regrouped_plan}
 use Rattle.cert_checker.specs.declared.verdict.Verdict.{Verdict}
 use Rattle.cert_checker.specs.Apart.{triangles_in, labels_in}
 use Rattle.cert_checker.specs.Judged.{JudgesPairs}
-use Rattle.group_checker.specs.Judged.{TellsPairs}
+use Rattle.group_checker.specs.Judged.{TellsPairsOfTwo}
 
 -- the groups of a certificate of version 2
 abbrev pub Groups : Type 0
@@ -40,4 +40,4 @@ plan_over p (Some groups) ls = regrouped_plan (triangles_in ls) (labels_in ls) (
 -- what a verdict says of the pairs of sectors, where the trees are those of that map
 abbrev pub TellsPairsAny : Map → TableParts → AnyCert → Verdict → Type 0
 TellsPairsAny m t (One c) v = JudgesPairs m t c v
-TellsPairsAny m t (Two c sizes) v = TellsPairs m t c v
+TellsPairsAny m t (Two c sizes) v = TellsPairsOfTwo m t c v

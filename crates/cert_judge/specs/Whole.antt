@@ -8,11 +8,11 @@ use Rattle.sight_names.specs.declared.names.PairRay.{PairRay}
 use Rattle.sight_names.specs.Map.{Map, map_of}
 use Rattle.sight_names.specs.Plan.{PlanParts}
 use Rattle.block_evidence.specs.declared.sight_tree.Tree.{Tree}
-use Rattle.cert_format.specs.Grammar.{IsInOrder}
+use Rattle.cert_format.specs.Grammar.{IsOneInOrder}
 use Rattle.cert_format.specs.Parts.{CertParts}
-use Rattle.cert_format.specs.Sizes.{sizes_of}
+use Rattle.cert_format.specs.Sizes.{sizes_of_plan}
 use Rattle.cert_format.specs.declared.cert_groups.cert.AnyCert.{AnyCert}
-use Rattle.cert_format.specs.CertGroups.Grammar.{IsAnyInOrder, sizes_of as sizes_in}
+use Rattle.cert_format.specs.CertGroups.Grammar.{IsAnyInOrder, sizes_of_listing as sizes_in}
 use Rattle.reject_bits.specs.Parts.{TableParts}
 use Rattle.cert_checker.specs.declared.tree_judge.judge.Reach.{Reach}
 use Rattle.cert_checker.specs.TreeJudge.Trees.{AreTreesWhole, TellsReach}
@@ -21,7 +21,7 @@ use Rattle.cert_checker.specs.Judged.{JudgesRays, JudgesTrees}
 use Rattle.cert_checker.specs.Rays.{AreSightRaysBelow}
 use Rattle.cert_judge.specs.declared.on_ground.OnGround.{OnGround}
 use Rattle.cert_judge.specs.declared.on_mesh.OnMesh.{OnMesh}
-use Rattle.cert_judge.specs.Heard.{Heard}
+use Rattle.cert_judge.specs.Heard.{PartsHeard}
 use Rattle.cert_judge.specs.OnGround.{IsOnGround}
 use Rattle.cert_judge.specs.OnMesh.{IsOnMesh}
 use Rattle.cert_judge.specs.Version.{Groups, groups_in, core_of, listed_in, plan_over}
@@ -31,14 +31,14 @@ AreNodesCounted c = (u : Tree) → Contains c.trees u → length u.nodes < 2 ^ 6
 
 -- a certificate in order, of a plan and a table
 pub record IsCertOf (p : PlanParts) (t : TableParts) (c : AnyCert) : Type 0 where
-  pub sized : sizes_in c ≡ sizes_of p
+  pub sized : sizes_in c ≡ sizes_of_plan p
   pub in_order : IsAnyInOrder c
-  pub core : IsInOrder (core_of c)
+  pub core : IsOneInOrder (core_of c)
   pub table : t.n ≡ p.sectors
   pub counted : AreNodesCounted (core_of c)
 
 -- what was heard is the whole of the certificate
-pub record IsAllOf (c : AnyCert) (h : Heard) : Type 0 where
+pub record IsAllOf (c : AnyCert) (h : PartsHeard) : Type 0 where
   pub triangles : h.triangles ≡ (core_of c).triangles
   pub rays : h.rays ≡ (core_of c).rays
   pub listed : h.listed ≡ listed_in c
@@ -48,7 +48,7 @@ pub record IsAllOf (c : AnyCert) (h : Heard) : Type 0 where
 
 -- the triangles of the certificate are the good mesh over which its rays and trees were judged
 pub record IsHeardOver (p : PlanParts) (c : CertParts) (g : OnMesh) : Type 0 where
-  pub in_order : IsInOrder c
+  pub in_order : IsOneInOrder c
   pub sectors : c.sizes.sectors ≡ p.sectors
   pub counted : AreNodesCounted c
   pub front : List Tree

@@ -5,7 +5,7 @@ ghost use Rattle.sight_names.specs.Limits.{most_triangles};
 ghost use Rattle.sight_names.specs.Mesh.{IsTriangle, IsAbove};
 ghost use Rattle.cert_checker.specs.Apart.{triangles_in};
 ghost use Rattle.cert_judge.specs.InOrder.{IsNextAt};
-ghost use Rattle.cert_judge.specs.Stage.{AreInOrder, AreLabelledBelow};
+ghost use Rattle.cert_judge.specs.Stage.{AreTrianglesInOrder, AreLabelledBelow};
 
 use cert_format::{Labelled, most_triangles};
 use sight_names::Triangle;
@@ -35,7 +35,7 @@ fn is_next(points: u16, labelled: &[Labelled], k: usize) -> bool
 
 /// Whether these are triangles between so many points, in order and few enough.
 pub fn are_in_order(points: u16, labelled: &[Labelled]) -> bool
-    ensures { IsTrue result ↔ AreInOrder points labelled.now }
+    ensures { IsTrue result ↔ AreTrianglesInOrder points labelled.now }
 {
     for k in 0..labelled.len() {
         if !is_next(points, labelled, k) {

@@ -3,13 +3,13 @@
 ghost use Rattle.std.specs.Prelude.{◌≡◌, ◌<◌, ◌≤◌, ℕ, List, [], ◌++◌, None, length, IsSome, IfSome, IfOk};
 ghost use Rattle.sight_names.specs.Plan.{PlanParts};
 ghost use Rattle.reject_bits.specs.Parts.{TableParts};
-ghost use Rattle.cert_format.specs.Sizes.{sizes_of};
+ghost use Rattle.cert_format.specs.Sizes.{sizes_of_plan};
 ghost use Rattle.cert_format.specs.declared.cert_groups.cert.AnyCert.{AnyCert};
 ghost use Rattle.cert_format.specs.CertGroups.Reading.{any_at};
 ghost use Rattle.certificates.specs.CertParts.Left.{IsCountable};
-ghost use Rattle.cert_judge.specs.Judging.{HasHeard, HasHeardAll, IsComplete};
-ghost use Rattle.cert_judge.specs.Judged.{JudgedBy, IsVerdictOf};
-ghost use Rattle.cert_judge.specs.Intake.{IsGoingOn, HasTaken, IsTaken};
+ghost use Rattle.cert_judge.specs.Judging.{HasHeard, HasHeardAll, IsListingComplete};
+ghost use Rattle.cert_judge.specs.Judged.{JudgedBy, IsVerdictOfListing};
+ghost use Rattle.cert_judge.specs.Intake.{IsGoingOn, HasTakenListing, IsTaken};
 
 use crate::judged::Judged;
 use crate::judging::Judging;
@@ -31,8 +31,8 @@ pub struct Intake<'a> {
 
 /// The verdict on a certificate whose parts all were heard.
 fn verdict_of(judging: Judging<'_>) -> Result<AnyVerdict, Memory>
-    requires { IsComplete judging }
-    ensures { (p : PlanParts) (t : TableParts) (c : AnyCert) → HasHeardAll p t c judging.entry → IfOk result (IsVerdictOf p t c) }
+    requires { IsListingComplete judging }
+    ensures { (p : PlanParts) (t : TableParts) (c : AnyCert) → HasHeardAll p t c judging.entry → IfOk result (IsVerdictOfListing p t c) }
 {
     judging.verdict()
 }
@@ -81,7 +81,7 @@ impl<'a> Intake<'a> {
         requires on { self.old.fault ≡ None }
         requires countable { IsCountable self.old.reader rest.now }
         ensures more { (p : PlanParts) (t : TableParts) (bytes : List ℕ) → IsGoingOn p t bytes rest.now self.old → IfOk result (λ o. IfSome o (λ behind. IsGoingOn p t bytes behind.now self.new)) }
-        ensures all { (p : PlanParts) (t : TableParts) (bytes : List ℕ) → IsGoingOn p t bytes rest.now self.old → IfOk result (λ o. o ≡ None → HasTaken p t bytes self.new) }
+        ensures all { (p : PlanParts) (t : TableParts) (bytes : List ℕ) → IsGoingOn p t bytes rest.now self.old → IfOk result (λ o. o ≡ None → HasTakenListing p t bytes self.new) }
         ensures still { IfOk result (λ o. IsSome o → self.new.fault ≡ None) }
         ensures countable { IfOk result (λ o. IfSome o (λ behind. IsCountable self.new.reader behind.now)) }
         ensures less { IfOk result (λ o. IfSome o (λ behind. length behind.now < length rest.now)) }
@@ -104,7 +104,7 @@ impl<'a> Intake<'a> {
     pub fn take_all(&mut self, piece: &[u8]) -> Result<(), Memory>
         requires on { self.old.fault ≡ None }
         requires countable { IsCountable self.old.reader piece.now }
-        ensures { (p : PlanParts) (t : TableParts) (bytes : List ℕ) → IsGoingOn p t bytes piece.now self.old → IfOk result (λ _. HasTaken p t bytes self.new) }
+        ensures { (p : PlanParts) (t : TableParts) (bytes : List ℕ) → IsGoingOn p t bytes piece.now self.old → IfOk result (λ _. HasTakenListing p t bytes self.new) }
     {
         let mut rest = piece;
         'rest: while let Some(behind) = self.take_one(rest)? {
@@ -116,7 +116,7 @@ impl<'a> Intake<'a> {
     /// The next piece.
     pub fn feed(&mut self, piece: &[u8]) -> Result<(), Memory>
         requires { self.old.fault ≡ None → IsCountable self.old.reader piece.now }
-        ensures { (p : PlanParts) (t : TableParts) (bytes : List ℕ) → HasTaken p t bytes self.old → IfOk result (λ _. HasTaken p t (bytes ++ piece.now) self.new) }
+        ensures { (p : PlanParts) (t : TableParts) (bytes : List ℕ) → HasTakenListing p t bytes self.old → IfOk result (λ _. HasTakenListing p t (bytes ++ piece.now) self.new) }
     {
         if self.fault.is_some() {
             return Ok(());
@@ -127,7 +127,7 @@ impl<'a> Intake<'a> {
     /// What comes of all bytes.
     pub fn end(self) -> Result<Judged, Memory>
         requires { IsTaken self }
-        ensures { (p : PlanParts) (t : TableParts) (bytes : List ℕ) → HasTaken p t bytes self.entry → IfOk result (JudgedBy (any_at (sizes_of p) bytes) (IsVerdictOf p t)) }
+        ensures { (p : PlanParts) (t : TableParts) (bytes : List ℕ) → HasTakenListing p t bytes self.entry → IfOk result (JudgedBy (any_at (sizes_of_plan p) bytes) (IsVerdictOfListing p t)) }
     {
         let Intake {
             reader,

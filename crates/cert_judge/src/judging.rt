@@ -8,7 +8,7 @@ ghost use Rattle.reject_bits.specs.Parts.{TableParts};
 ghost use Rattle.group_checker.specs.Judged.{JudgesAny};
 ghost use Rattle.certificates.specs.CertParts.Nodes.{TakesNodes};
 ghost use Rattle.cert_judge.specs.Heard.{node_parts};
-ghost use Rattle.cert_judge.specs.Judging.{HasHeard, HasHeardAll, IsComplete};
+ghost use Rattle.cert_judge.specs.Judging.{HasHeard, HasHeardAll, IsListingComplete};
 ghost use Rattle.cert_judge.specs.Version.{Groups as GroupsOf};
 
 use crate::kept::Kept;
@@ -74,7 +74,7 @@ impl<'a> Judging<'a> {
 
     /// The verdict on the certificate whose parts all have been heard: that of the check of the whole certificate.
     pub fn verdict(self) -> Result<AnyVerdict, Memory>
-        requires { IsComplete self }
+        requires { IsListingComplete self }
         ensures { (p : PlanParts) (t : TableParts) (c : AnyCert) → HasHeardAll p t c self.entry → IfOk result (JudgesAny p t c) }
     {
         if let Some(memory) = self.spent {

@@ -5,8 +5,8 @@ ghost use Rattle.sight_names.specs.Plan.{PlanParts};
 ghost use Rattle.cert_format.specs.declared.cert_groups.cert.AnyCert.{AnyCert};
 ghost use Rattle.group_checker.specs.Judged.{JudgesAny};
 ghost use Rattle.certificates.specs.CertParts.Nodes.{TakesNodes};
-ghost use Rattle.cert_judge.specs.Heard.{Heard, nothing, closed_at, heard_from, node_parts, with_part, with_triangle, with_ray, with_listed, with_tree, with_next};
-ghost use Rattle.cert_judge.specs.Judging.{IsKept, IsKeptWhole};
+ghost use Rattle.cert_judge.specs.Heard.{PartsHeard, nothing_heard, closed_at, heard_from, node_parts, with_part, with_triangle, with_ray, with_listed, with_tree, with_next};
+ghost use Rattle.cert_judge.specs.Judging.{KeepsListingHeard, IsKeptWhole};
 ghost use Rattle.cert_judge.specs.Version.{Groups as GroupsOf};
 
 use crate::on_ground::Groups;
@@ -48,7 +48,7 @@ fn keep_ray(rays: &mut Vec<PairRay>, sectors: u16, ray: PairRay) -> Result<(), M
 impl Kept {
     /// Nothing but the groups so far.
     pub fn new(alloc: Global, groups: Groups) -> Kept
-        ensures { (p : PlanParts) → IsKept p groups nothing result }
+        ensures { (p : PlanParts) → KeepsListingHeard p groups nothing_heard result }
     {
         Kept {
             groups,
@@ -61,7 +61,7 @@ impl Kept {
 
     /// A triangle, unless another part has come before it.
     fn hear_triangle(&mut self, one: Labelled) -> Result<(), Memory>
-        ensures { (p : PlanParts) (groups : GroupsOf) (h : Heard) → IsKept p groups h self.old → IfOk result (λ _. IsKept p groups (with_triangle one h) self.new) }
+        ensures { (p : PlanParts) (groups : GroupsOf) (h : PartsHeard) → KeepsListingHeard p groups h self.old → IfOk result (λ _. KeepsListingHeard p groups (with_triangle one h) self.new) }
     {
         if let Stage::Gathering = self.stage {
             self.triangles.push(one)?;
@@ -71,7 +71,7 @@ impl Kept {
 
     /// Another part than a triangle has come.
     fn close(&mut self, alloc: Global, plan: &Plan) -> Result<(), Memory>
-        ensures { (groups : GroupsOf) (h : Heard) → IsKept plan.now groups h self.old → IfOk result (λ _. IsKept plan.now groups (closed_at h) self.new) }
+        ensures { (groups : GroupsOf) (h : PartsHeard) → KeepsListingHeard plan.now groups h self.old → IfOk result (λ _. KeepsListingHeard plan.now groups (closed_at h) self.new) }
     {
         self.stage
             .close(alloc, plan, &self.groups, self.triangles.as_slice())
@@ -79,7 +79,7 @@ impl Kept {
 
     /// A ray.
     fn hear_ray(&mut self, plan: &Plan, ray: PairRay) -> Result<(), Memory>
-        ensures { (groups : GroupsOf) (h : Heard) → h.closed ≡ true → IsKept plan.now groups h self.old → IfOk result (λ _. IsKept plan.now groups (with_ray ray h) self.new) }
+        ensures { (groups : GroupsOf) (h : PartsHeard) → h.closed ≡ true → KeepsListingHeard plan.now groups h self.old → IfOk result (λ _. KeepsListingHeard plan.now groups (with_ray ray h) self.new) }
     {
         self.stage.hear_ray(plan, &ray);
         keep_ray(&mut self.rays, plan.sectors, ray)?;
@@ -88,7 +88,7 @@ impl Kept {
 
     /// A listed pair.
     fn hear_listed(&mut self, pair: Pair) -> Result<(), Memory>
-        ensures { (p : PlanParts) (groups : GroupsOf) (h : Heard) → h.closed ≡ true → IsKept p groups h self.old → IfOk result (λ _. IsKept p groups (with_listed pair h) self.new) }
+        ensures { (p : PlanParts) (groups : GroupsOf) (h : PartsHeard) → h.closed ≡ true → KeepsListingHeard p groups h self.old → IfOk result (λ _. KeepsListingHeard p groups (with_listed pair h) self.new) }
     {
         self.listed.push(pair)?;
         Ok(())
@@ -96,14 +96,14 @@ impl Kept {
 
     /// A tree begins.
     fn begin_tree(&mut self, source: u16)
-        ensures { (p : PlanParts) (groups : GroupsOf) (h : Heard) → h.closed ≡ true → IsKept p groups h self.old → IsKept p groups (with_tree source h) self.new }
+        ensures { (p : PlanParts) (groups : GroupsOf) (h : PartsHeard) → h.closed ≡ true → KeepsListingHeard p groups h self.old → KeepsListingHeard p groups (with_tree source h) self.new }
     {
         self.stage.begin_tree(source);
     }
 
     /// A node of the last tree.
     fn hear_node(&mut self, node: Node) -> Result<(), Memory>
-        ensures { (p : PlanParts) (groups : GroupsOf) (h : Heard) → h.closed ≡ true → IsKept p groups h self.old → IfOk result (λ _. IsKept p groups (with_next node h) self.new) }
+        ensures { (p : PlanParts) (groups : GroupsOf) (h : PartsHeard) → h.closed ≡ true → KeepsListingHeard p groups h self.old → IfOk result (λ _. KeepsListingHeard p groups (with_next node h) self.new) }
     {
         self.stage.hear_node(node)
     }
@@ -111,14 +111,14 @@ impl Kept {
     /// The next nodes of the last tree, of so many that are to come, from the bytes: what of those is behind them, and how many
     /// are left. Others than the usual ones, and now and then one of these, are left to `hear`.
     pub fn hear_nodes<'a>(&mut self, bytes: &'a [u8], count: u64) -> (&'a [u8], u64)
-        ensures { TakesNodes bytes.now count result.0.now result.1 (λ nodes. (p : PlanParts) (groups : GroupsOf) (h : Heard) → IsKept p groups h self.old → IsKept p groups (heard_from h (node_parts nodes)) self.new) }
+        ensures { TakesNodes bytes.now count result.0.now result.1 (λ nodes. (p : PlanParts) (groups : GroupsOf) (h : PartsHeard) → KeepsListingHeard p groups h self.old → KeepsListingHeard p groups (heard_from h (node_parts nodes)) self.new) }
     {
         self.stage.hear_nodes(bytes, count)
     }
 
     /// The next part.
     pub fn hear(&mut self, alloc: Global, plan: &Plan, part: Part) -> Result<(), Memory>
-        ensures { (groups : GroupsOf) (h : Heard) → IsKept plan.now groups h self.old → IfOk result (λ _. IsKept plan.now groups (with_part h part) self.new) }
+        ensures { (groups : GroupsOf) (h : PartsHeard) → KeepsListingHeard plan.now groups h self.old → IfOk result (λ _. KeepsListingHeard plan.now groups (with_part h part) self.new) }
     {
         match part {
             Part::Triangle(one) => self.hear_triangle(one),

@@ -3,8 +3,8 @@
 ghost use Rattle.std.specs.Prelude.{◌≡◌, [], Some, None, true, IfOk};
 ghost use Rattle.sight_names.specs.Plan.{PlanParts};
 ghost use Rattle.certificates.specs.CertParts.Nodes.{TakesNodes};
-ghost use Rattle.cert_judge.specs.Heard.{Heard, closed_at, heard_from, node_parts, with_next, with_ray, with_tree};
-ghost use Rattle.cert_judge.specs.Stage.{IsClosed, IsStage};
+ghost use Rattle.cert_judge.specs.Heard.{PartsHeard, closed_at, heard_from, node_parts, with_next, with_ray, with_tree};
+ghost use Rattle.cert_judge.specs.Stage.{IsStageClosed, IsStage};
 ghost use Rattle.cert_judge.specs.Version.{Groups as GroupsOf};
 
 use crate::in_order::{are_in_order, are_labelled_below};
@@ -31,7 +31,7 @@ pub enum Stage {
 
 /// Judges the triangles of a certificate of version 1, which all have come.
 fn plain_stage(alloc: Global, plan: &Plan, labelled: &[Labelled]) -> Result<Stage, Memory>
-    ensures { IfOk result (IsClosed plan.now None labelled.now [] [] None) }
+    ensures { IfOk result (IsStageClosed plan.now None labelled.now [] [] None) }
 {
     let points = plan.points().len() as u16;
     if !are_in_order(points, labelled) {
@@ -54,7 +54,7 @@ fn grouped_stage(
     groups: &[Group],
     labelled: &[Labelled],
 ) -> Result<Stage, Memory>
-    ensures { IfOk result (IsClosed plan.now (Some groups.now) labelled.now [] [] None) }
+    ensures { IfOk result (IsStageClosed plan.now (Some groups.now) labelled.now [] [] None) }
 {
     let points = plan.points().len() as u16;
     if !are_in_order(points, labelled) || !are_labelled_below(points, groups.len(), labelled) {
@@ -85,7 +85,7 @@ fn stage_of(
     groups: &Groups,
     labelled: &[Labelled],
 ) -> Result<Stage, Memory>
-    ensures { IfOk result (IsClosed plan.now groups.now labelled.now [] [] None) }
+    ensures { IfOk result (IsStageClosed plan.now groups.now labelled.now [] [] None) }
 {
     match groups {
         None => plain_stage(alloc, plan, labelled),
@@ -104,7 +104,7 @@ impl Stage {
         groups: &Groups,
         labelled: &[Labelled],
     ) -> Result<(), Memory>
-        ensures { IfOk result (λ _. IsClosed plan.now groups.now labelled.now [] [] None self.new) }
+        ensures { IfOk result (λ _. IsStageClosed plan.now groups.now labelled.now [] [] None self.new) }
     {
         *self = stage_of(alloc, plan, groups, labelled)?;
         Ok(())
@@ -118,7 +118,7 @@ impl Stage {
         groups: &Groups,
         labelled: &[Labelled],
     ) -> Result<(), Memory>
-        ensures { (h : Heard) → labelled.now ≡ h.triangles → IsStage plan.now groups.now h self.old → IfOk result (λ _. IsStage plan.now groups.now (closed_at h) self.new) }
+        ensures { (h : PartsHeard) → labelled.now ≡ h.triangles → IsStage plan.now groups.now h self.old → IfOk result (λ _. IsStage plan.now groups.now (closed_at h) self.new) }
     {
         if let Stage::Gathering = self {
             self.settle(alloc, plan, groups, labelled)?;
@@ -128,7 +128,7 @@ impl Stage {
 
     /// The next ray.
     pub fn hear_ray(&mut self, plan: &Plan, one: &PairRay)
-        ensures { (groups : GroupsOf) (h : Heard) → h.closed ≡ true → IsStage plan.now groups h self.old → IsStage plan.now groups (with_ray one.now h) self.new }
+        ensures { (groups : GroupsOf) (h : PartsHeard) → h.closed ≡ true → IsStage plan.now groups h self.old → IsStage plan.now groups (with_ray one.now h) self.new }
     {
         if let Stage::Good(on) = self {
             on.hear_ray(plan, one);
@@ -137,7 +137,7 @@ impl Stage {
 
     /// A tree begins.
     pub fn begin_tree(&mut self, source: u16)
-        ensures { (p : PlanParts) (groups : GroupsOf) (h : Heard) → h.closed ≡ true → IsStage p groups h self.old → IsStage p groups (with_tree source h) self.new }
+        ensures { (p : PlanParts) (groups : GroupsOf) (h : PartsHeard) → h.closed ≡ true → IsStage p groups h self.old → IsStage p groups (with_tree source h) self.new }
     {
         if let Stage::Good(on) = self {
             on.begin_tree(source);
@@ -147,7 +147,7 @@ impl Stage {
     /// The next nodes of the last tree, of so many that are to come, from the bytes: what of those is behind them, and how many
     /// are left. Others than the usual ones, and now and then one of these, are left to `hear_node`.
     pub fn hear_nodes<'a>(&mut self, bytes: &'a [u8], count: u64) -> (&'a [u8], u64)
-        ensures { TakesNodes bytes.now count result.0.now result.1 (λ nodes. (p : PlanParts) (groups : GroupsOf) (h : Heard) → IsStage p groups h self.old → IsStage p groups (heard_from h (node_parts nodes)) self.new) }
+        ensures { TakesNodes bytes.now count result.0.now result.1 (λ nodes. (p : PlanParts) (groups : GroupsOf) (h : PartsHeard) → IsStage p groups h self.old → IsStage p groups (heard_from h (node_parts nodes)) self.new) }
     {
         match self {
             Stage::Good(on) => on.hear_nodes(bytes, count),
@@ -159,7 +159,7 @@ impl Stage {
 
     /// The next node of the last tree.
     pub fn hear_node(&mut self, node: Node) -> Result<(), Memory>
-        ensures { (p : PlanParts) (groups : GroupsOf) (h : Heard) → h.closed ≡ true → IsStage p groups h self.old → IfOk result (λ _. IsStage p groups (with_next node h) self.new) }
+        ensures { (p : PlanParts) (groups : GroupsOf) (h : PartsHeard) → h.closed ≡ true → IsStage p groups h self.old → IfOk result (λ _. IsStage p groups (with_next node h) self.new) }
     {
         let Stage::Good(on) = self else {
             return Ok(());

@@ -4,16 +4,16 @@ use Rattle.cert_format.specs.declared.cert.Sizes.{Sizes}
 use Rattle.cert_format.specs.Grammar.{spelling as spelling_of_one}
 use Rattle.cert_format.specs.declared.cert_groups.cert.AnyCert.{AnyCert}
 use Rattle.cert_format.specs.declared.cert_groups.cert.AnyCert.TheVariants.{One, Two}
-use Rattle.cert_format.specs.CertGroups.Grammar.{IsAnyInOrder, SpellsAny, sizes_of as sizes_of_listing, spelling as spelling_of_two}
+use Rattle.cert_format.specs.CertGroups.Grammar.{IsAnyInOrder, SpellsAny, sizes_of_listing, spelling as spelling_of_two}
 use Rattle.certificates.specs.CertExact.Grammar.{SpellsThree, spelling as spelling_of_three}
 pub use Rattle.certificates.specs.CertExact.Grammar.{IsThreeInOrder}
 use Rattle.certificates.specs.declared.certificate.Certificate.{Certificate}
 use Rattle.certificates.specs.declared.certificate.Certificate.TheVariants.{Listing, Exact}
 
 -- the sizes of the map that the certificate is about
-abbrev pub sizes_of : Certificate → Sizes
-sizes_of (Listing c) = sizes_of_listing c
-sizes_of (Exact c) = c.sizes
+abbrev pub sizes_of_certificate : Certificate → Sizes
+sizes_of_certificate (Listing c) = sizes_of_listing c
+sizes_of_certificate (Exact c) = c.sizes
 
 -- the ranges and orders of its version
 abbrev pub IsInOrder : Certificate → Type 0

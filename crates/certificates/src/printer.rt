@@ -1,7 +1,7 @@
 //! The spelling of a certificate of any version in pieces of any size. Nothing here takes memory.
 
 ghost use Rattle.std.specs.Prelude.{◌≡◌, ◌↔◌, ◌<◌, [], ◌++◌, length, take, drop, min};
-ghost use Rattle.certificates.specs.Grammar.{IsInOrder, Spells, sizes_of};
+ghost use Rattle.certificates.specs.Grammar.{IsInOrder, Spells, sizes_of_certificate};
 
 use crate::cert_exact::ExactPrinter;
 use crate::certificate::Certificate;
@@ -34,7 +34,7 @@ impl<'a> Printer<'a> {
     /// Before the first piece.
     pub fn new(cert: &'a Certificate) -> Printer<'a>
         requires { IsInOrder cert.now }
-        ensures { Spells (sizes_of cert.now) result cert.now }
+        ensures { Spells (sizes_of_certificate cert.now) result cert.now }
     {
         match cert {
             Certificate::Listing(listing) => Printer {

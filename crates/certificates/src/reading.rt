@@ -2,12 +2,12 @@
 
 ghost use Rattle.std.specs.Prelude.{Ok, IfOk};
 ghost use Rattle.cert_format.specs.Parts.{CertParts};
-ghost use Rattle.cert_format.specs.Grammar.{AreSmall, Spells};
-ghost use Rattle.cert_format.specs.Reading.{Gives, reading};
+ghost use Rattle.cert_format.specs.Grammar.{AreSmall, SpellsOne};
+ghost use Rattle.cert_format.specs.Reading.{GivesCert, reading};
 ghost use Rattle.cert_format.specs.declared.cert_groups.cert.AnyCert.{AnyCert};
 ghost use Rattle.cert_format.specs.CertGroups.Grammar.{IsAnyInOrder, SpellsAny};
 ghost use Rattle.cert_format.specs.CertGroups.Reading.{any_at};
-ghost use Rattle.certificates.specs.CertParts.Gathered.{all_with, nothing};
+ghost use Rattle.certificates.specs.CertParts.Gathered.{all_with, nothing_gathered};
 ghost use Rattle.certificates.specs.CertParts.Parts.{reading_parts};
 
 use crate::cert_parts::{Beginning, Gathered, Reader, beginning_of, gather};
@@ -19,7 +19,7 @@ use std::alloc::Global;
 /// The parts of the certificate of version 1 that the bytes spell.
 fn parts_of(alloc: Global, sizes: Sizes, bytes: &[u8]) -> Result<Gathered, CertFault>
     ensures small { AreSmall sizes }
-    ensures all { Gives (λ g. g) result (all_with nothing (reading_parts sizes bytes.now)) }
+    ensures all { GivesCert (λ g. g) result (all_with nothing_gathered (reading_parts sizes bytes.now)) }
 {
     gather(alloc, Reader::new(&sizes), bytes)
 }
@@ -28,11 +28,11 @@ fn parts_of(alloc: Global, sizes: Sizes, bytes: &[u8]) -> Result<Gathered, CertF
 /// they spell none.
 pub fn read(alloc: Global, sizes: &Sizes, bytes: &[u8]) -> Result<Cert, CertFault>
     // What is read is spelled by the bytes.
-    ensures found { IfOk result (λ c. Spells sizes.now bytes.now c) }
+    ensures found { IfOk result (λ c. SpellsOne sizes.now bytes.now c) }
     // What the bytes spell is read, unless memory runs out.
-    ensures only { (c : CertParts) → Spells sizes.now bytes.now c → Gives (λ d. d) result (Ok c) }
+    ensures only { (c : CertParts) → SpellsOne sizes.now bytes.now c → GivesCert (λ d. d) result (Ok c) }
     // Which fault it is.
-    ensures exact { Gives (λ c. c) result (reading sizes.now bytes.now) }
+    ensures exact { GivesCert (λ c. c) result (reading sizes.now bytes.now) }
 {
     let parts = parts_of(alloc, *sizes, bytes)?;
     Ok(parts.into_core(*sizes))
@@ -41,7 +41,7 @@ pub fn read(alloc: Global, sizes: &Sizes, bytes: &[u8]) -> Result<Cert, CertFaul
 /// What the bytes are, by their beginning.
 fn any_of(alloc: Global, sizes: Sizes, bytes: &[u8]) -> Result<AnyCert, CertFault>
     ensures small { AreSmall sizes }
-    ensures exact { Gives (λ c. c) result (any_at sizes bytes.now) }
+    ensures exact { GivesCert (λ c. c) result (any_at sizes bytes.now) }
 {
     match beginning_of(alloc, &sizes, bytes)? {
         Beginning::Cut { at } => Err(CertFault::Short { at }),
@@ -67,11 +67,11 @@ pub fn read_any(alloc: Global, sizes: &Sizes, bytes: &[u8]) -> Result<AnyCert, C
     // What is read is spelled by the bytes.
     ensures found { IfOk result (λ c. SpellsAny sizes.now bytes.now c) }
     // What the bytes spell is read, unless memory runs out.
-    ensures only { (c : AnyCert) → SpellsAny sizes.now bytes.now c → Gives (λ d. d) result (Ok c) }
+    ensures only { (c : AnyCert) → SpellsAny sizes.now bytes.now c → GivesCert (λ d. d) result (Ok c) }
     // In version 2 its ranges and orders hold.
     ensures in_order { IfOk result (λ c. IsAnyInOrder c) }
     // Which fault it is.
-    ensures exact { Gives (λ c. c) result (any_at sizes.now bytes.now) }
+    ensures exact { GivesCert (λ c. c) result (any_at sizes.now bytes.now) }
 {
     any_of(alloc, *sizes, bytes)
 }

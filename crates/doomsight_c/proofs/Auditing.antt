@@ -10,7 +10,7 @@ use Rattle.sight_names.specs.Plan.{IsPlan, PlanParts}
 use Rattle.sight_names.specs.Sound.{LinesMeetAtEnds}
 use Rattle.map_answers.specs.declared.sight_status.status.Status.{Status}
 use Rattle.map_answers.specs.declared.sight_status.status.Status.TheVariants as status
-use Rattle.map_answers.specs.SightStatus.Answer.{Makes}
+use Rattle.map_answers.specs.SightStatus.Answer.{MakesAnswer}
 use Rattle.map_answers.specs.SightStatus.Status.{IsOfBytes}
 use Rattle.map_faults.specs.declared.clashes.LinePair.{LinePair}
 use Rattle.map_faults.specs.declared.clashes.TheConstants.{MOST_CLASHES}
@@ -23,7 +23,7 @@ use Rattle.map_faults.specs.OpenSides.{AreOpenSides}
 use Rattle.doomsight_c.specs.declared.fault.DoomsightFault.{DoomsightFault}
 use Rattle.doomsight_c.specs.declared.flaw.DoomsightFlaw.{DoomsightFlaw}
 use Rattle.doomsight_c.specs.declared.flaw.DoomsightFlawCounts.{DoomsightFlawCounts}
-use Rattle.doomsight_c.specs.Audited.{AreBetween, AreClashing, IsAuditFor, IsAuditOf, IsUnaudited, RefusesReading, TellsAll, TellsClashes, counts_of}
+use Rattle.doomsight_c.specs.Audited.{AreBetween, AreClashing, IsAuditFor, IsAuditOf, IsUnaudited, RefusesReading, TellsAllFlaws, TellsClashes, counts_of}
 use Rattle.doomsight_c.specs.Faults.{fault_view}
 use Rattle.doomsight_c.specs.Flaws.{TellEach, TellsClash}
 use Rattle.doomsight_c.specs.Lines.{IsOfLibrary, status_in}
@@ -99,13 +99,13 @@ module _ (p : PlanParts) (count : ℕ) (none : (count ≡ 0) ↔ LinesMeetAtEnds
 
 -- what was told of lists is told of the same lists
 pub told_of : (p : PlanParts) (a first : List LinePair) (b loose : List LooseEnd) (d sides : List Side) (e tears : List Tear) (f gaps : List Gap) (all : List DoomsightFlaw)
-    → a ≡ first → b ≡ loose → d ≡ sides → e ≡ tears → f ≡ gaps → TellsAll p a b d e f all → TellsAll p first loose sides tears gaps all
+    → a ≡ first → b ≡ loose → d ≡ sides → e ≡ tears → f ≡ gaps → TellsAllFlaws p a b d e f all → TellsAllFlaws p first loose sides tears gaps all
 told_of p a first b loose d sides e tears f gaps all ha hb hd he hf h =
-    subst (λ (x : List LinePair). TellsAll p x loose sides tears gaps all) ha
-    (subst (λ (x : List LooseEnd). TellsAll p a x sides tears gaps all) hb
-    (subst (λ (x : List Side). TellsAll p a b x tears gaps all) hd
-    (subst (λ (x : List Tear). TellsAll p a b d x gaps all) he
-    (subst (λ (x : List Gap). TellsAll p a b d e x all) hf h))))
+    subst (λ (x : List LinePair). TellsAllFlaws p x loose sides tears gaps all) ha
+    (subst (λ (x : List LooseEnd). TellsAllFlaws p a x sides tears gaps all) hb
+    (subst (λ (x : List Side). TellsAllFlaws p a b x tears gaps all) hd
+    (subst (λ (x : List Tear). TellsAllFlaws p a b d x gaps all) he
+    (subst (λ (x : List Gap). TellsAllFlaws p a b d e x all) hf h))))
 
 pub same_counts : (n a b d e f v w x y z : ℕ) → a ≡ v → b ≡ w → d ≡ x → e ≡ y → f ≡ z → counts_of n a b d e f ≡ counts_of n v w x y z
 same_counts n a b d e f v w x y z ha hb hd he hf =
@@ -114,7 +114,7 @@ same_counts n a b d e f v w x y z ha hb hd he hf =
 
 pub audit_made : (p : PlanParts) (first : List LinePair) (count : ℕ) → AreFirstClashes (map_of p) first count → (count ≡ 0) ↔ LinesMeetAtEnds (map_of p)
     → (loose : List LooseEnd) → AreLooseEnds p loose → (sides : List Side) (tears : List Tear) (gaps : List Gap) → AreBetween p sides tears gaps
-    → (all : List DoomsightFlaw) → TellsAll p first loose sides tears gaps all
+    → (all : List DoomsightFlaw) → TellsAllFlaws p first loose sides tears gaps all
     → (counts : DoomsightFlawCounts) → counts ≡ counts_of count (length loose) (length sides) (length tears) (length gaps) (length all) → IsAuditOf p all counts
 audit_made p first count clashes none loose are_loose sides tears gaps between all told counts counted =
     subst (IsAuditOf p all) (sym counted) (record {
@@ -136,7 +136,7 @@ audit_for p plan all counts h = record { plan = p; is_plan = plan; is_read = ref
 
 -- ---- why there is none
 
-refused_by_reading : (read : Result Map Status) (s : Status) → IsOfBytes s → Makes map_of (Err s) read → RefusesReading read s
+refused_by_reading : (read : Result Map Status) (s : Status) → IsOfBytes s → MakesAnswer map_of (Err s) read → RefusesReading read s
 refused_by_reading read (status.BadLump f) h made = subst (λ r. RefusesReading r (status.BadLump f)) (sym made) refl
 refused_by_reading read (status.BadText f) h made = subst (λ r. RefusesReading r (status.BadText f)) (sym made) refl
 refused_by_reading read (status.Limit b) h made = subst (λ r. RefusesReading r (status.Limit b)) (sym made) refl
@@ -147,7 +147,7 @@ refused_by_reading (Err r) (status.Memory _) h made = tt
 refused_by_reading read other h made = absurd h
 
 module _ (tells : (s : Status) → IsOfLibrary s → status_in (fault_view s) ≡ s) where
-  pub unaudited_read : (read : Result Map Status) → IsLibrarys read → (s : Status) → IsOfBytes s → Makes map_of (Err s) read → (f : DoomsightFault) → f ≡ fault_view s → IsUnaudited read f
+  pub unaudited_read : (read : Result Map Status) → IsLibrarys read → (s : Status) → IsOfBytes s → MakesAnswer map_of (Err s) read → (f : DoomsightFault) → f ≡ fault_view s → IsUnaudited read f
   unaudited_read read lib s h made f is = record {
     refusal = s;
     is = is;

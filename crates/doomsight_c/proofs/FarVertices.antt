@@ -13,7 +13,7 @@ use Rattle.udmf_map.specs.declared.faults.TextFault.{TextFault}
 use Rattle.udmf_map.specs.declared.values.Coordinate.{Coordinate}
 use Rattle.udmf_map.specs.declared.values.Coordinate.TheVariants.{Missing, OffGrid, At}
 use Rattle.udmf_map.specs.Checks.{records_fault}
-use Rattle.udmf_map.specs.Grid.{places_of, on_grid}
+use Rattle.udmf_map.specs.Grid.{places_of_lines, on_grid}
 use Rattle.udmf_map.specs.Lumps.{LumpBytes, lumps_of, lumps_of_text, lumps_or, placed}
 use Rattle.udmf_map.specs.Reading.{Read, text_read}
 use Rattle.udmf_map.proofs.Standing.{records_stand}
@@ -110,7 +110,7 @@ block_near r k lt = go (slice_get r.vertices k) refl
     go : (o : Option Vertex) → slice_get r.vertices k ≡ o → is_far_vertex (lumps_of r).vertexes k ≡ false
     go None is = absurd (none-some (get_or r.vertices k v0) (sym is ∙ slice_get-get_or r.vertices k v0 lt))
     go (Some v) is =
-        let places = places_of r.vertices r.lines in
+        let places = places_of_lines r.vertices r.lines in
         let h = (records_stand r).vertex k v is in
         near_too (lumps_of r).vertexes k (placed places v.x) (placed places v.y) h.x h.y (placed_near places v.x) (placed_near places v.y)
 

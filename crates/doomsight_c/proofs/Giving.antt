@@ -12,13 +12,13 @@ use Rattle.map_answers.specs.Sound.{IsAuditRefusal}
 use Rattle.map_answers.specs.declared.sight_status.status.Flaw.TheVariants as flaw
 use Rattle.map_answers.specs.declared.sight_status.status.Status.{Status}
 use Rattle.map_answers.specs.declared.sight_status.status.Status.TheVariants as status
-use Rattle.map_answers.specs.SightStatus.Answer.{Makes}
+use Rattle.map_answers.specs.SightStatus.Answer.{MakesAnswer}
 use Rattle.map_answers.specs.SightStatus.Status.{IsOfBytes}
 use Rattle.whole_wad.specs.declared.building.Built.{Built}
 use Rattle.whole_wad.specs.Built.{IsBuiltOf}
 use Rattle.doomsight_c.specs.declared.counts.DoomsightCounts.{DoomsightCounts}
 use Rattle.doomsight_c.specs.declared.fault.DoomsightFault.{DoomsightFault}
-use Rattle.doomsight_c.specs.Built.{IsBuiltFor, IsGiven, IsNoTable, IsPut, Refuses, table_size}
+use Rattle.doomsight_c.specs.Built.{IsBuiltFor, IsGiven, IsNoTable, IsPutInBuffers, Refuses, table_size}
 use Rattle.doomsight_c.specs.Faults.{fault_view, wide}
 use Rattle.doomsight_c.specs.Lines.{IsOfLibrary, status_in}
 use Rattle.doomsight_c.specs.Lumps.{far_vertex, of_lumps_given, unless_far}
@@ -52,7 +52,7 @@ given_is_librarys reading linedefs sidedefs vertexes sectors =
     (of_lumps_is_librarys (lump_fault reading linedefs sidedefs vertexes sectors) (map_of_lumps reading.format linedefs sidedefs vertexes sectors))
 
 -- .. is of the library
-pub of_reading : (read : Result Map Status) → IsLibrarys read → (s : Status) → IsOfBytes s → Makes map_of (Err s) read → IsOfLibrary s
+pub of_reading : (read : Result Map Status) → IsLibrarys read → (s : Status) → IsOfBytes s → MakesAnswer map_of (Err s) read → IsOfLibrary s
 of_reading read lib (status.BadLump f) h made = subst IsLibrarys made lib
 of_reading read lib (status.BadText f) h made = subst IsLibrarys made lib
 of_reading read lib (status.Limit b) h made = subst IsLibrarys made lib
@@ -62,7 +62,7 @@ of_reading read lib (status.Memory _) h made = tt
 of_reading read lib other h made = absurd h
 
 -- .. and is what they call for
-pub called_by_reading : (read : Result Map Status) (s : Status) → IsOfBytes s → Makes map_of (Err s) read → Refuses read s
+pub called_by_reading : (read : Result Map Status) (s : Status) → IsOfBytes s → MakesAnswer map_of (Err s) read → Refuses read s
 called_by_reading read (status.BadLump f) h made = subst (λ r. Refuses r (status.BadLump f)) (sym made) refl
 called_by_reading read (status.BadText f) h made = subst (λ r. Refuses r (status.BadText f)) (sym made) refl
 called_by_reading read (status.Limit b) h made = subst (λ r. Refuses r (status.Limit b)) (sym made) refl
@@ -73,7 +73,7 @@ called_by_reading (Err r) (status.Memory _) h made = tt
 called_by_reading read other h made = absurd h
 
 -- no map was read, unless memory ran out
-isnt_read : (read : Result Map Status) (s : Status) → IsOfBytes s → Makes map_of (Err s) read → (m : Map) → read ≡ Ok m → s ≡ status.Memory tt
+isnt_read : (read : Result Map Status) (s : Status) → IsOfBytes s → MakesAnswer map_of (Err s) read → (m : Map) → read ≡ Ok m → s ≡ status.Memory tt
 isnt_read read (status.BadLump f) h made m e = cc (sym made ∙ e)
 isnt_read read (status.BadText f) h made m e = cc (sym made ∙ e)
 isnt_read read (status.Limit b) h made m e = cc (sym made ∙ e)
@@ -96,7 +96,7 @@ size_in (Ok m) = table_size m.sectors
 size_in (Err s) = 0
 
 module _ (tells : (s : Status) → IsOfLibrary s → status_in (fault_view s) ≡ s) (size : ℕ) where
-  pub refused_read : (read : Result Map Status) → IsLibrarys read → (s : Status) → IsOfBytes s → Makes map_of (Err s) read → (f : DoomsightFault) → f ≡ fault_view s → IsNoTable read size f
+  pub refused_read : (read : Result Map Status) → IsLibrarys read → (s : Status) → IsOfBytes s → MakesAnswer map_of (Err s) read → (f : DoomsightFault) → f ≡ fault_view s → IsNoTable read size f
   refused_read read lib s h made f is = inr (record {
     refusal = s;
     is = is;
@@ -122,6 +122,6 @@ unfit m size other f is = inl (record { map = m; is_read = refl; other = other; 
 pub built_for : (m : Map) (by : Method) (size : ℕ) → size ≡ table_size m.sectors → (b : Built) → IsBuiltOf m by b → IsBuiltFor (Ok m) by size b
 built_for m by size fits b is = record { map = m; is_read = refl; is_built = is; fits = fits ∙ ap table_size (sym is.sectors) }
 
-pub given : (read : Result Map Status) (by : Method) (size : ℕ) (b : Built) → IsBuiltFor read by size b → (reject before after : List ℕ) (counts : DoomsightCounts) → IsPut b reject before after counts
+pub given : (read : Result Map Status) (by : Method) (size : ℕ) (b : Built) → IsBuiltFor read by size b → (reject before after : List ℕ) (counts : DoomsightCounts) → IsPutInBuffers b reject before after counts
     → IsGiven read by reject before after counts
 given read by size b is reject before after counts put = record { map = is.map; is_read = is.is_read; built = b; is_built = is.is_built; put = put }

@@ -6,7 +6,7 @@ use Rattle.certificates.specs.Grammar.{IsInOrder}
 use Rattle.map_answers.specs.Counts.{counts_with}
 use Rattle.map_answers.specs.Sound.{IsAuditRefusal}
 use Rattle.map_answers.specs.declared.sight_status.status.Status.{Status}
-use Rattle.map_answers.specs.SightStatus.Answer.{Makes}
+use Rattle.map_answers.specs.SightStatus.Answer.{MakesAnswer}
 use Rattle.map_answers.specs.SightStatus.Status.{IsOfBytes}
 use Rattle.whole_wad.specs.declared.building.Built.{Built}
 use Rattle.whole_wad.specs.Built.{IsBuiltOf}
@@ -15,7 +15,7 @@ use Rattle.doomsight_c.specs.declared.fault.DoomsightFault.{DoomsightFault}
 use Rattle.doomsight_c.specs.declared.kept.Kept.{Kept}
 use Rattle.doomsight_c.specs.Built.{SpellsInto, counts_view}
 use Rattle.doomsight_c.specs.Faults.{fault_view}
-use Rattle.doomsight_c.specs.Keeping.{HoldsWhole, IsCalledFor, IsKept, KeptIsGiven, cert_of, table_of}
+use Rattle.doomsight_c.specs.Keeping.{HoldsWhole, IsCalledFor, IsKept, KeptIsGiven, kept_cert, table_of}
 use Rattle.doomsight_c.specs.Lines.{IsOfLibrary, status_in}
 use Rattle.doomsight_c.specs.Piece.{CopiesFrom}
 use Rattle.doomsight_c.specs.Whole.{IsWholeOf}
@@ -24,7 +24,7 @@ use Rattle.doomsight_c.proofs.Giving.{IsLibrarys, called_by_reading, of_audit, o
 -- ---- why nothing is kept
 
 module _ (tells : (s : Status) → IsOfLibrary s → status_in (fault_view s) ≡ s) where
-  pub called_read : (read : Result Map Status) → IsLibrarys read → (s : Status) → IsOfBytes s → Makes map_of (Err s) read → (f : DoomsightFault) → f ≡ fault_view s → IsCalledFor read f
+  pub called_read : (read : Result Map Status) → IsLibrarys read → (s : Status) → IsOfBytes s → MakesAnswer map_of (Err s) read → (f : DoomsightFault) → f ≡ fault_view s → IsCalledFor read f
   called_read read lib s h made f is = record {
     refusal = s;
     is = is;
@@ -62,7 +62,7 @@ module _ (bytes before after : List ℕ) (count : ℕ) (from : CopiesFrom bytes 
 pub given_of_kept : KeptIsGiven
 given_of_kept read by held counts k reject before after count same copied =
     let b = k.built in let kept = k.holds.kept in let bytes = kept.cert.items in let whole = k.holds.whole in
-    let from : CopiesFrom bytes 0 before after count = subst (λ (xs : List ℕ). CopiesFrom xs 0 before after count) (ap cert_of k.holds.is_held) copied in
+    let from : CopiesFrom bytes 0 before after count = subst (λ (xs : List ℕ). CopiesFrom xs 0 before after count) (ap kept_cert k.holds.is_held) copied in
     let size : counts.cert_size ≡ length bytes = ap (λ (n : DoomsightCounts). n.cert_size) whole.counted in
     let spells : SpellsInto b.cert before after counts.cert_size = record {
       bytes = bytes;

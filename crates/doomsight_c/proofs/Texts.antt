@@ -3,7 +3,7 @@ use Rattle.std.proofs.Common.{◌≡◌, ◌≢◌, ◌∙◌, Result, sym, ap, 
 use Rattle.udmf_map.specs.declared.faults.TextFault.{TextFault}
 use Rattle.udmf_map.specs.declared.faults.TextFault.TheVariants as text
 use Rattle.udmf_map.specs.Lumps.{LumpBytes}
-use Rattle.udmf_map.specs.Reading.{Fails}
+use Rattle.udmf_map.specs.Reading.{FailsText}
 use Rattle.map_answers.specs.declared.sight_status.status.Status.{Status}
 use Rattle.doomsight_c.specs.declared.fault.DoomsightFault.{DoomsightFault}
 use Rattle.doomsight_c.specs.Faults.{fault_view}
@@ -20,7 +20,7 @@ text_is_librarys (text.Portal line) = tt
 text_is_librarys (text.OffGrid vertex) = tt
 text_is_librarys (text.Memory _) = tt
 
-pub no_text : ((s : Status) → IsOfLibrary s → status_in (fault_view s) ≡ s) → (read : Result LumpBytes TextFault) (f : TextFault) → Fails f read → (s : Status) → s ≡ status_of_text f → (d : DoomsightFault) → d ≡ fault_view s → IsNoText read d
+pub no_text : ((s : Status) → IsOfLibrary s → status_in (fault_view s) ≡ s) → (read : Result LumpBytes TextFault) (f : TextFault) → FailsText f read → (s : Status) → s ≡ status_of_text f → (d : DoomsightFault) → d ≡ fault_view s → IsNoText read d
 no_text tells read f called s e d is = let as_told = is ∙ ap fault_view e in record {
   refusal = f;
   is = as_told;

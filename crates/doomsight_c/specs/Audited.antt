@@ -44,7 +44,7 @@ pub record TellsClashes (p : PlanParts) (clashes : List LinePair) (before after 
   pub are : after ≡ before ++ flaws
 
 -- they tell of all that was found, kind after kind
-pub record TellsAll (p : PlanParts) (clashes : List LinePair) (loose : List LooseEnd) (sides : List Side) (tears : List Tear) (gaps : List Gap) (all : List DoomsightFlaw) : Type 0 where
+pub record TellsAllFlaws (p : PlanParts) (clashes : List LinePair) (loose : List LooseEnd) (sides : List Side) (tears : List Tear) (gaps : List Gap) (all : List DoomsightFlaw) : Type 0 where
   pub first : List DoomsightFlaw
   pub clash : TellsClashes p clashes [] first
   pub are : all ≡ (((first ++ map (loose_view p) loose) ++ map (side_view p) sides) ++ map (tear_view p) tears) ++ map (gap_view p) gaps
@@ -62,7 +62,7 @@ pub record IsAuditOf (p : PlanParts) (all : List DoomsightFlaw) (counts : Doomsi
   pub tears : List Tear
   pub gaps : List Gap
   pub between : AreBetween p sides tears gaps
-  pub told : TellsAll p clashes loose sides tears gaps all
+  pub told : TellsAllFlaws p clashes loose sides tears gaps all
   pub counted : counts ≡ counts_of counts.clashes (length loose) (length sides) (length tears) (length gaps) (length all)
   -- the map has a table exactly where no lines clash and no side is open
   pub sound : ((counts.clashes ≡ 0) × (counts.open_sides ≡ 0)) ↔ HasClosedFaces (map_of p)

@@ -4,7 +4,7 @@ use Rattle.std.specs.Int.{div_ceil}
 use Rattle.sight_names.specs.declared.names.Method.{Method}
 use Rattle.sight_names.specs.Map.{Map}
 use Rattle.certificates.specs.declared.certificate.Certificate.{Certificate}
-use Rattle.certificates.specs.Grammar.{Spells, sizes_of}
+use Rattle.certificates.specs.Grammar.{Spells, sizes_of_certificate}
 use Rattle.map_answers.specs.declared.counts.Counts.{Counts}
 use Rattle.map_answers.specs.Counts.{counts_with}
 use Rattle.map_answers.specs.Sound.{IsAuditRefusal}
@@ -25,7 +25,7 @@ table_size n = div_ceil (n * n) 8
 -- the bytes of the spelling, unless there are as many as the greatest number of 64 bits
 pub record SpellsInto (cert : Certificate) (before after : List ℕ) (size : ℕ) : Type 0 where
   pub bytes : List ℕ
-  pub spells : Spells (sizes_of cert) bytes cert
+  pub spells : Spells (sizes_of_certificate cert) bytes cert
   pub front : take (min (length before) (length bytes)) after ≡ take (min (length before) (length bytes)) bytes
   pub rest : drop (min (length before) (length bytes)) after ≡ drop (min (length before) (length bytes)) before
   pub counted : length bytes < 2 ^ 64 - 1 → size ≡ length bytes
@@ -36,7 +36,7 @@ abbrev pub counts_view : Counts → ℕ → DoomsightCounts
 counts_view c size = record { sectors = c.sectors; set = c.set; clear = c.clear; listed = c.listed; cert_size = size }
 
 -- what was built stands in the buffers
-pub record IsPut (b : Built) (reject cert_before cert_after : List ℕ) (counts : DoomsightCounts) : Type 0 where
+pub record IsPutInBuffers (b : Built) (reject cert_before cert_after : List ℕ) (counts : DoomsightCounts) : Type 0 where
   pub table : reject ≡ b.table.bytes
   pub cert : SpellsInto b.cert cert_before cert_after counts.cert_size
   pub counted : counts ≡ counts_view (counts_with b.table (length b.listed)) counts.cert_size
@@ -47,7 +47,7 @@ pub record IsGiven (read : Result Map Status) (by : Method) (reject cert_before 
   pub is_read : read ≡ Ok map
   pub built : Built
   pub is_built : IsBuiltOf map by built
-  pub put : IsPut built reject cert_before cert_after counts
+  pub put : IsPutInBuffers built reject cert_before cert_after counts
 
 -- the lumps call for this refusal: they are no map, or the map isn't sound
 abbrev pub Refuses : Result Map Status → Status → Type 0
@@ -64,7 +64,7 @@ pub record IsUnfit (read : Result Map Status) (size : ℕ) (fault : DoomsightFau
   pub is : fault ≡ wide 2 15 (table_size map.sectors) 0
 
 -- the numbers are those of a refusal for which the lumps call, and tell it; the buffer has the length of the table
-pub record IsRefused (read : Result Map Status) (size : ℕ) (fault : DoomsightFault) : Type 0 where
+pub record IsBuildRefused (read : Result Map Status) (size : ℕ) (fault : DoomsightFault) : Type 0 where
   pub refusal : Status
   pub is : fault ≡ fault_view refusal
   pub told : status_in fault ≡ refusal
@@ -73,7 +73,7 @@ pub record IsRefused (read : Result Map Status) (size : ℕ) (fault : DoomsightF
 
 -- why the lumps get no table in a buffer of this length
 abbrev pub IsNoTable : Result Map Status → ℕ → DoomsightFault → Type 0
-IsNoTable read size fault = IsUnfit read size fault ⊎ IsRefused read size fault
+IsNoTable read size fault = IsUnfit read size fault ⊎ IsBuildRefused read size fault
 
 -- why there is no table: a number of the call is out of order, or else what the lumps call for
 abbrev pub IsNotBuilt : Option DoomsightFault → Result Map Status → ℕ → DoomsightFault → Type 0

@@ -6,8 +6,8 @@ use Rattle.sight_names.specs.Sound.{LinesMeetAtEnds}
 use Rattle.sight_names.specs.declared.faults.CertFault.{CertFault}
 use Rattle.sight_names.specs.declared.faults.CertFault.TheVariants as unread
 use Rattle.sight_names.specs.declared.faults.TableFault.TheVariants as length_of
-use Rattle.reject_bits.specs.Parts.{HasSameBits, IsWhole, TableParts, Takes}
-use Rattle.cert_format.specs.Sizes.{sizes_of}
+use Rattle.reject_bits.specs.Parts.{HasSameBits, IsTableWhole, TableParts, TakesBytes}
+use Rattle.cert_format.specs.Sizes.{sizes_of_plan}
 use Rattle.cert_checker.specs.declared.verdict.Totals.{Totals}
 use Rattle.certificates.specs.declared.certificate.Certificate.{Certificate}
 use Rattle.certificates.specs.Reading.{certificate_at}
@@ -31,37 +31,37 @@ abbrev pub totals_view : Totals → ℕ → ℕ → DoomsightCounts
 totals_view t sectors size = record { sectors = sectors; set = t.set; clear = t.clear; listed = t.listed; cert_size = size }
 
 -- the table of n sectors that the bytes spell: their bits, with the spare ones clear
-pub record IsTableOf (n : ℕ) (bytes : List ℕ) (table : TableParts) : Type 0 where
+pub record IsTableInBytes (n : ℕ) (bytes : List ℕ) (table : TableParts) : Type 0 where
   pub sectors : table.n ≡ n
   pub bits : HasSameBits n bytes table.bytes
-  pub whole : IsWhole table
+  pub whole : IsTableWhole table
 
 -- the verdict on the table of these bytes by the certificate that those spell
-pub record IsVerdictOn (m : Map) (reject cert : List ℕ) (v : AnyVerdict) : Type 0 where
+pub record IsVerdictOnBytes (m : Map) (reject cert : List ℕ) (v : AnyVerdict) : Type 0 where
   pub plan : PlanParts
   pub map : map_of plan ≡ m
   pub meet : LinesMeetAtEnds m
   pub table : TableParts
-  pub spelled : IsTableOf m.sectors reject table
+  pub spelled : IsTableInBytes m.sectors reject table
   pub parts : Certificate
-  pub read : certificate_at (sizes_of plan) cert ≡ Ok parts
+  pub read : certificate_at (sizes_of_plan plan) cert ≡ Ok parts
   pub judged : IsJudged plan table parts v
 
 -- the bytes spell no certificate of the map
 pub record IsUnread (m : Map) (cert : List ℕ) (f : CertFault) : Type 0 where
   pub plan : PlanParts
   pub map : map_of plan ≡ m
-  pub read : certificate_at (sizes_of plan) cert ≡ Err f
+  pub read : certificate_at (sizes_of_plan plan) cert ≡ Err f
 
 -- the totals of a yes, or why it is none
 abbrev pub ChecksMap : Map → List ℕ → List ℕ → Result Totals Status → Type 0
-ChecksMap m reject cert (Ok totals) = IsVerdictOn m reject cert (verdict.Yes totals)
-ChecksMap m reject cert (Err (status.No (why.Table (length_of.WrongLength found expected)))) = Takes m.sectors reject (Err (length_of.WrongLength found expected))
+ChecksMap m reject cert (Ok totals) = IsVerdictOnBytes m reject cert (verdict.Yes totals)
+ChecksMap m reject cert (Err (status.No (why.Table (length_of.WrongLength found expected)))) = TakesBytes m.sectors reject (Err (length_of.WrongLength found expected))
 ChecksMap m reject cert (Err (status.No (why.Cert (unread.Memory _)))) = ⊥
 ChecksMap m reject cert (Err (status.No (why.Cert f))) = IsUnread m cert f
-ChecksMap m reject cert (Err (status.No (why.Check f))) = IsVerdictOn m reject cert (verdict.No (fault.Check f))
-ChecksMap m reject cert (Err (status.No (why.Group t))) = IsVerdictOn m reject cert (verdict.No (fault.Group t))
-ChecksMap m reject cert (Err (status.No (why.Unused g))) = IsVerdictOn m reject cert (verdict.No (fault.Unused g))
+ChecksMap m reject cert (Err (status.No (why.Check f))) = IsVerdictOnBytes m reject cert (verdict.No (fault.Check f))
+ChecksMap m reject cert (Err (status.No (why.Group t))) = IsVerdictOnBytes m reject cert (verdict.No (fault.Group t))
+ChecksMap m reject cert (Err (status.No (why.Unused g))) = IsVerdictOnBytes m reject cert (verdict.No (fault.Unused g))
 ChecksMap m reject cert (Err (status.BadMap flaw)) = IsLineRefusal m (status.BadMap flaw)
 ChecksMap m reject cert (Err (status.Memory _)) = ⊤
 ChecksMap m reject cert (Err other) = ⊥
@@ -77,7 +77,7 @@ pub record IsYes (read : Result Map Status) (reject cert : List ℕ) (counts : D
   pub map : Map
   pub is_read : read ≡ Ok map
   pub totals : Totals
-  pub verdict : IsVerdictOn map reject cert (verdict.Yes totals)
+  pub verdict : IsVerdictOnBytes map reject cert (verdict.Yes totals)
   pub counted : counts ≡ totals_view totals map.sectors (length cert)
 
 -- the numbers are those of a refusal or of a no for which these bytes call, and tell it
@@ -95,11 +95,11 @@ IsNotProved None read reject cert fault = IsUnproved read reject cert fault
 -- ---- parts of it
 
 -- the bytes as a table of n sectors, or their length is wrong
-abbrev pub TakesTable : ℕ → List ℕ → Result TableParts Status → Type 0
-TakesTable n bytes (Ok t) = IsTableOf n bytes t
-TakesTable n bytes (Err (status.No (why.Table (length_of.WrongLength found expected)))) = Takes n bytes (Err (length_of.WrongLength found expected))
-TakesTable n bytes (Err (status.Memory _)) = ⊤
-TakesTable n bytes (Err other) = ⊥
+abbrev pub TakesTableBytes : ℕ → List ℕ → Result TableParts Status → Type 0
+TakesTableBytes n bytes (Ok t) = IsTableInBytes n bytes t
+TakesTableBytes n bytes (Err (status.No (why.Table (length_of.WrongLength found expected)))) = TakesBytes n bytes (Err (length_of.WrongLength found expected))
+TakesTableBytes n bytes (Err (status.Memory _)) = ⊤
+TakesTableBytes n bytes (Err other) = ⊥
 
 -- the status of what was judged
 abbrev pub VerdictOf : Judged → Result Totals Status → Type 0

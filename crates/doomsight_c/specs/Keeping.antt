@@ -19,9 +19,9 @@ abbrev pub table_of : Option Kept → List ℕ
 table_of None = []
 table_of (Some kept) = kept.table.bytes
 
-abbrev pub cert_of : Option Kept → List ℕ
-cert_of None = []
-cert_of (Some kept) = kept.cert.items
+abbrev pub kept_cert : Option Kept → List ℕ
+kept_cert None = []
+kept_cert (Some kept) = kept.cert.items
 
 -- the handle keeps something, and that is the whole of what was built
 pub record HoldsWhole (b : Built) (held : Option Kept) (counts : DoomsightCounts) : Type 0 where
@@ -53,4 +53,4 @@ IsNotKept None read fault = IsCalledFor read fault
 -- is a build that is kept, copied and freed.
 abbrev pub KeptIsGiven : Type 0
 KeptIsGiven = (read : Result Map Status) (by : Method) (held : Option Kept) (counts : DoomsightCounts) → IsKept read by held counts
-    → (reject before after : List ℕ) (count : ℕ) → reject ≡ table_of held → CopiesFrom (cert_of held) 0 before after count → IsGiven read by reject before after counts
+    → (reject before after : List ℕ) (count : ℕ) → reject ≡ table_of held → CopiesFrom (kept_cert held) 0 before after count → IsGiven read by reject before after counts

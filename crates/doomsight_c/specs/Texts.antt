@@ -3,7 +3,7 @@ use Rattle.std.specs.Prelude.{◌≡◌, ℕ, List, Result, Ok, min, length, tak
 use Rattle.udmf_map.specs.declared.faults.TextFault.{TextFault}
 use Rattle.udmf_map.specs.declared.faults.TextFault.TheVariants as text
 use Rattle.udmf_map.specs.Lumps.{LumpBytes}
-use Rattle.udmf_map.specs.Reading.{Fails}
+use Rattle.udmf_map.specs.Reading.{FailsText}
 use Rattle.map_answers.specs.declared.sight_status.status.Bound.TheVariants as bound
 use Rattle.map_answers.specs.declared.sight_status.status.Status.{Status}
 use Rattle.map_answers.specs.declared.sight_status.status.Status.TheVariants as status
@@ -28,8 +28,8 @@ pub record PutsBytes (bytes before after : List ℕ) : Type 0 where
   pub front : take (min (length before) (length bytes)) after ≡ take (min (length before) (length bytes)) bytes
   pub rest : drop (min (length before) (length bytes)) after ≡ drop (min (length before) (length bytes)) before
 
-abbrev pub sizes_of : LumpBytes → DoomsightLumpSizes
-sizes_of l = record { linedefs = length l.linedefs; sidedefs = length l.sidedefs; vertexes = length l.vertexes; sectors = length l.sectors }
+abbrev pub sizes_of_lumps : LumpBytes → DoomsightLumpSizes
+sizes_of_lumps l = record { linedefs = length l.linedefs; sidedefs = length l.sidedefs; vertexes = length l.vertexes; sectors = length l.sectors }
 
 -- the four lumps that were read of a text, each in its buffer, with the buffers as they were before and as they are, and their sizes
 pub record IsSpelledOut (read : Result LumpBytes TextFault) (linedefs_before linedefs_after sidedefs_before sidedefs_after vertexes_before vertexes_after sectors_before sectors_after : List ℕ) (sizes : DoomsightLumpSizes) : Type 0 where
@@ -39,11 +39,11 @@ pub record IsSpelledOut (read : Result LumpBytes TextFault) (linedefs_before lin
   pub sidedefs : PutsBytes lumps.sidedefs sidedefs_before sidedefs_after
   pub vertexes : PutsBytes lumps.vertexes vertexes_before vertexes_after
   pub sectors : PutsBytes lumps.sectors sectors_before sectors_after
-  pub sized : sizes ≡ sizes_of lumps
+  pub sized : sizes ≡ sizes_of_lumps lumps
 
 -- the numbers are those of the first fault of the text, or of want of memory, and tell it
 pub record IsNoText (read : Result LumpBytes TextFault) (fault : DoomsightFault) : Type 0 where
   pub refusal : TextFault
   pub is : fault ≡ fault_view (status_of_text refusal)
   pub told : status_in fault ≡ status_of_text refusal
-  pub called : Fails refusal read
+  pub called : FailsText refusal read

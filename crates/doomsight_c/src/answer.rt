@@ -1,7 +1,7 @@
 //! The answer for two sectors as the numbers that C reads.
 
 ghost use Rattle.std.specs.Prelude.{◌≡◌};
-ghost use Rattle.doomsight_c.specs.Said.{along as along_ray, answer_view, plain as plain_answer};
+ghost use Rattle.doomsight_c.specs.Said.{sight_along as along_ray, answer_view, plain as plain_answer};
 
 use crate::fault::left_of;
 use pair_answer::PairAnswer;

@@ -5,7 +5,7 @@ ghost use Rattle.sight_names.specs.Map.{map_of};
 ghost use Rattle.sight_names.specs.declared.names.Method.TheVariants.{Exact, Within};
 ghost use Rattle.doomsight_c.specs.Lumps.{of_lumps_given};
 ghost use Rattle.map_answers.specs.Sound.{HasSoundLines};
-ghost use Rattle.reject_bits.specs.Parts.{IsWhole};
+ghost use Rattle.reject_bits.specs.Parts.{IsTableWhole};
 ghost use Rattle.whole_wad.specs.Built.{AreBytes, Builds};
 ghost use Rattle.doomsight_c.specs.Built.{IsBuiltFor, IsNoTable, table_size as size_of_table};
 
@@ -32,7 +32,7 @@ fn are_bytes(bytes: &[u8])
 
 /// A table has as many bytes as its sectors ask, and nothing behind the last pair's bit.
 fn is_whole(table: &Table)
-    ensures whole { IsWhole table.now }
+    ensures whole { IsTableWhole table.now }
     ensures bytes { AreBytes table.now.bytes }
 {
     are_bytes(table.as_bytes());

@@ -6,7 +6,7 @@ ghost use Rattle.sight_names.specs.Sound.{LinesMeetAtEnds};
 ghost use Rattle.doomsight_c.specs.Lumps.{of_lumps_given};
 ghost use Rattle.map_answers.specs.Sound.{HasSoundLines};
 ghost use Rattle.any_judge.specs.CertFile.Judgement.{IsJudgement};
-ghost use Rattle.doomsight_c.specs.Checked.{ChecksMap, IsUnproved, IsYes, TakesTable, VerdictOf};
+ghost use Rattle.doomsight_c.specs.Checked.{ChecksMap, IsUnproved, IsYes, TakesTableBytes, VerdictOf};
 
 use crate::counts::{DoomsightCounts, counts_of_totals};
 use crate::fault::{DoomsightFault, fault_of};
@@ -24,7 +24,7 @@ use std::alloc::Global;
 
 /// The table that the bytes spell.
 fn table_of(alloc: Global, n: u16, bytes: &[u8]) -> Result<Table, Status>
-    ensures { TakesTable n bytes.now result }
+    ensures { TakesTableBytes n bytes.now result }
 {
     match Table::of_bytes(alloc, n, bytes) {
         Ok(table) => Ok(table),

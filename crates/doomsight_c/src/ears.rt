@@ -5,7 +5,7 @@ ghost use Rattle.doomsight_c.specs.Lumps.{of_lumps_given};
 ghost use Rattle.doomsight_c.specs.Asked.{method_of as method_meant, reading_fault as reading_wrong, reading_of as reading_meant};
 ghost use Rattle.doomsight_c.specs.Audited.{IsAudited, IsNotAudited};
 ghost use Rattle.doomsight_c.specs.Faults.{no_fault};
-ghost use Rattle.doomsight_c.specs.Said.{IsNotSaid, IsSaid, ask_of as ask_meant, pair_fault as pair_wrong, pair_of as pair_meant, sector_fault as sector_wrong};
+ghost use Rattle.doomsight_c.specs.Said.{IsNotSaid, IsSaid, ask_of as ask_meant, pair_fault as pair_wrong, sector_pair as pair_meant, sector_fault as sector_wrong};
 
 use crate::answer::DoomsightAnswer;
 use crate::asked::{call_fault, method_of, reading_fault, reading_of};

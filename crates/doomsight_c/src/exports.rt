@@ -5,7 +5,7 @@ ghost use Rattle.certificates.specs.Grammar.{IsInOrder};
 ghost use Rattle.doomsight_c.specs.Lumps.{of_lumps_given};
 ghost use Rattle.map_answers.specs.SightStatus.Texts.{text_of};
 ghost use Rattle.doomsight_c.specs.Asked.{call_fault as call_wrong, method_of as method_meant, reading_fault as reading_wrong, reading_of as reading_meant};
-ghost use Rattle.doomsight_c.specs.Built.{IsGiven, IsNotBuilt, IsPut, table_size};
+ghost use Rattle.doomsight_c.specs.Built.{IsGiven, IsNotBuilt, IsPutInBuffers, table_size};
 ghost use Rattle.doomsight_c.specs.Checked.{IsNotProved, IsYes};
 ghost use Rattle.doomsight_c.specs.Faults.{no_fault};
 ghost use Rattle.doomsight_c.specs.Lines.{PutsText, TellsText, status_in};
@@ -67,7 +67,7 @@ pub extern "C" fn doomsight_layout(fault: &mut DoomsightFault, counts: &mut Doom
 fn put(built: &Built, reject: &mut [u8], cert: &mut [u8], counts: &mut DoomsightCounts)
     requires in_order { IsInOrder built.now.cert }
     requires fits { length reject.old ≡ table_size built.now.table.n }
-    ensures put { IsPut built.now reject.new cert.old cert.new counts.new }
+    ensures put { IsPutInBuffers built.now reject.new cert.old cert.new counts.new }
 {
     reject.copy_from_slice(built.table.as_bytes());
     let size = spell(&built.cert, cert);

@@ -1,7 +1,7 @@
 //! A refusal as the numbers that C reads.
 
 ghost use Rattle.std.specs.Prelude.{◌≡◌};
-ghost use Rattle.doomsight_c.specs.Faults.{bit_of, bound_view, cert_view, check_view, fault_view, flaw_view, lump_number, lumps_view, mesh_view, no_view, of_ray as of_ray_lem, of_side as of_side_lem, ray_view, table_view, text_view, two as two_lem, wide as wide_lem};
+ghost use Rattle.doomsight_c.specs.Faults.{bit_of_bool, bound_view, cert_view, check_view, fault_view, flaw_view, lump_number, lumps_view, mesh_view, no_view, of_ray as of_ray_lem, of_side as of_side_lem, ray_view, table_view, text_view, two_numbers as two_lem, wide as wide_lem};
 
 use map_answers::sight_status::{Bound, Flaw, Status, Why, code};
 use sight_names::{
@@ -42,7 +42,7 @@ pub fn two(code: u16, kind: u16, a: u16, b: u16) -> DoomsightFault
 
 /// 1 for the left side of a line.
 pub fn left_of(side: Side) -> u16
-    ensures { result ≡ bit_of side.left }
+    ensures { result ≡ bit_of_bool side.left }
 {
     if side.left { 1 } else { 0 }
 }

@@ -2,9 +2,9 @@
 
 ghost use Rattle.std.specs.Prelude.{◌≡◌};
 ghost use Rattle.sight_names.specs.Map.{map_of};
-ghost use Rattle.map_audit.specs.Audit.{IsFaultOf};
+ghost use Rattle.map_audit.specs.Audit.{IsLineFaultOf};
 ghost use Rattle.map_faults.specs.Clashes.{IsClash};
-ghost use Rattle.doomsight_c.specs.Flaws.{TellsClash, flaw_of as flaw_told, gap_view, kind_of as kind_told, loose_view, point_at, side_view, start_of as start_told, stop_of as stop_told, tear_view};
+ghost use Rattle.doomsight_c.specs.Flaws.{TellsClash, flaw_of as flaw_told, gap_view, kind_of_clash as kind_told, loose_view, point_of_plan, side_view, start_of as start_told, stop_of as stop_told, tear_view};
 
 use crate::fault::left_of;
 use map_faults::{Gap, LinePair, LooseEnd, Tear, fault_of, meeting_of};
@@ -54,7 +54,7 @@ fn flaw_of(kind: u16, i: u16, j: u16, left: u16, from: Pt, to: Pt) -> DoomsightF
 
 /// The point with this number; the origin where there is none.
 fn point_of(plan: &Plan, k: u16) -> Pt
-    ensures { result ≡ point_at plan.now k }
+    ensures { result ≡ point_of_plan plan.now k }
 {
     match plan.points().get(k as usize) {
         Some(point) => *point,
@@ -94,7 +94,7 @@ fn kind_of(fault: LineFault) -> u16
 
 /// Two lines that clash so, where they meet.
 fn of_fault(plan: &Plan, pair: LinePair, fault: LineFault) -> DoomsightFlaw
-    requires { IsFaultOf (map_of plan.now) pair.i pair.j fault }
+    requires { IsLineFaultOf (map_of plan.now) pair.i pair.j fault }
     ensures { TellsClash plan.now pair result }
 {
     let kind = kind_of(fault);

@@ -4,7 +4,7 @@ ghost use Rattle.std.specs.Prelude.{◌≡◌, ◌≢◌, IfErr, IfOk, None, OnO
 ghost use Rattle.doomsight_c.specs.Lumps.{of_lumps_given};
 ghost use Rattle.doomsight_c.specs.Asked.{call_fault as call_wrong, method_of as method_meant, reading_of as reading_meant};
 ghost use Rattle.doomsight_c.specs.Faults.{no_fault};
-ghost use Rattle.doomsight_c.specs.Keeping.{IsKept, IsNotKept, cert_of, table_of};
+ghost use Rattle.doomsight_c.specs.Keeping.{IsKept, IsNotKept, kept_cert, table_of};
 ghost use Rattle.doomsight_c.specs.Piece.{CopiesFrom};
 
 use crate::asked::{call_fault, method_of, reading_of};
@@ -103,7 +103,7 @@ pub extern "C" fn doomsight_kept_table_size(alloc: Global, kept: &mut DoomsightK
 /// How many bytes the kept certificate has; 0 where nothing is kept.
 #[unsafe(no_mangle)]
 pub extern "C" fn doomsight_kept_cert_size(alloc: Global, kept: &mut DoomsightKept) -> usize
-    ensures size { result ≡ length (cert_of kept.old.value) }
+    ensures size { result ≡ length (kept_cert kept.old.value) }
     ensures same { kept.new.value ≡ kept.old.value }
 {
     match std::mem::replace(kept, DoomsightKept::empty(alloc)).into_box() {
@@ -145,7 +145,7 @@ pub extern "C" fn doomsight_kept_cert_buffer(
     offset: usize,
     buf: &mut [u8],
 ) -> usize
-    ensures piece { CopiesFrom (cert_of kept.old.value) offset buf.old buf.new result }
+    ensures piece { CopiesFrom (kept_cert kept.old.value) offset buf.old buf.new result }
     ensures same { kept.new.value ≡ kept.old.value }
 {
     match std::mem::replace(kept, DoomsightKept::empty(alloc)).into_box() {

@@ -3,7 +3,7 @@
 ghost use Rattle.std.specs.Prelude.{◌≡◌, ◌+◌, ◌*◌, ◌<◌, ◌≤◌, ◌/◌, length, IfErr};
 ghost use Rattle.sight_names.specs.Lumps.{i32_at};
 ghost use Rattle.sight_names.specs.Map.{map_of};
-ghost use Rattle.map_answers.specs.SightStatus.Answer.{Makes};
+ghost use Rattle.map_answers.specs.SightStatus.Answer.{MakesAnswer};
 ghost use Rattle.map_answers.specs.SightStatus.Status.{IsOfBytes};
 ghost use Rattle.doomsight_c.specs.Lumps.{TextsAreNear, VerticesAreAsSpelled, far_vertex as the_far_vertex, first_far as the_first_far, is_far as is_too_far, is_far_vertex as is_vertex_too_far, of_lumps_given};
 
@@ -67,7 +67,7 @@ pub fn plan_given(
     sectors: &[u8],
 ) -> Result<Plan, Status>
     ensures refusals { IfErr result IsOfBytes }
-    ensures map { Makes map_of result (of_lumps_given reading linedefs.now sidedefs.now vertexes.now sectors.now) }
+    ensures map { MakesAnswer map_of result (of_lumps_given reading linedefs.now sidedefs.now vertexes.now sectors.now) }
 {
     let far = far_vertex(reading.format, vertexes);
     match plan_of(alloc, reading, linedefs, sidedefs, vertexes, sectors) {

@@ -1,7 +1,7 @@
 //! A certificate spelled into a buffer, or whole.
 
 ghost use Rattle.std.specs.Prelude.{◌≡◌, ◌+◌, ◌-◌, ◌<◌, ◌^◌, [], ◌++◌, IfOk, drop, length, min, take};
-ghost use Rattle.certificates.specs.Grammar.{IsInOrder, Spells, sizes_of};
+ghost use Rattle.certificates.specs.Grammar.{IsInOrder, Spells, sizes_of_certificate};
 ghost use Rattle.doomsight_c.specs.Built.{SpellsInto};
 
 use certificates::{Certificate, Printer};
@@ -69,7 +69,7 @@ fn with_room(alloc: Global, cert: &Certificate) -> Result<Vec<u8>, Memory>
 /// The whole spelling.
 pub fn print(alloc: Global, cert: &Certificate) -> Result<Vec<u8>, Memory>
     requires { IsInOrder cert.now }
-    ensures { IfOk result (λ v. Spells (sizes_of cert.now) v.items cert.now) }
+    ensures { IfOk result (λ v. Spells (sizes_of_certificate cert.now) v.items cert.now) }
 {
     let mut out = with_room(alloc, cert)?;
     let mut printer = Printer::new(cert);

@@ -1,7 +1,7 @@
 //! The faults of a map, one behind the other.
 
 ghost use Rattle.std.specs.Prelude.{◌≡◌, ◌++◌, IfOk, OnOk, map};
-ghost use Rattle.doomsight_c.specs.Audited.{AreClashing, TellsAll, TellsClashes};
+ghost use Rattle.doomsight_c.specs.Audited.{AreClashing, TellsAllFlaws, TellsClashes};
 ghost use Rattle.doomsight_c.specs.Flaws.{PutsFront, gap_view, loose_view, side_view, tear_view};
 
 use crate::flaw::{DoomsightFlaw, of_clash, of_gap, of_loose, of_side, of_tear};
@@ -66,7 +66,7 @@ pub fn tell_all(
     gaps: &[Gap],
 ) -> Result<Vec<DoomsightFlaw>, Memory>
     requires { AreClashing plan.now clashes.now }
-    ensures { IfOk result (λ v. TellsAll plan.now clashes.now loose.now sides.now tears.now gaps.now v.items) }
+    ensures { IfOk result (λ v. TellsAllFlaws plan.now clashes.now loose.now sides.now tears.now gaps.now v.items) }
 {
     let mut out = Vec::new(alloc);
     tell_clashes(plan, clashes, &mut out)?;

@@ -4,7 +4,7 @@ ghost use Rattle.std.specs.Prelude.{◌≡◌, ◌≢◌, IfErr, IfOk, Ok, OnErr
 ghost use Rattle.map_answers.specs.declared.sight_status.status.Status.TheVariants as status;
 ghost use Rattle.udmf_map.specs.Lumps.{lump_bytes, lumps_of_text as lumps_of_text_lem, places_told};
 ghost use Rattle.doomsight_c.specs.Faults.{fault_view, no_fault};
-ghost use Rattle.doomsight_c.specs.Texts.{IsNoText, IsSpelledOut, PutsBytes, sizes_of, status_of_text as status_of_text_lem};
+ghost use Rattle.doomsight_c.specs.Texts.{IsNoText, IsSpelledOut, PutsBytes, sizes_of_lumps, status_of_text as status_of_text_lem};
 
 use crate::fault::{DoomsightFault, fault_of, two};
 use crate::line::faults_tell_statuses;
@@ -75,7 +75,7 @@ fn put_lumps(
     ensures sidedefs { PutsBytes lumps.now.sidedefs.items sidedefs.old sidedefs.new }
     ensures vertexes { PutsBytes lumps.now.vertexes.items vertexes.old vertexes.new }
     ensures sectors { PutsBytes lumps.now.sectors.items sectors.old sectors.new }
-    ensures sizes { result ≡ sizes_of (lump_bytes lumps.now) }
+    ensures sizes { result ≡ sizes_of_lumps (lump_bytes lumps.now) }
 {
     put_bytes(lumps.linedefs.as_slice(), linedefs);
     put_bytes(lumps.sidedefs.as_slice(), sidedefs);

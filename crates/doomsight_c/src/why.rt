@@ -2,10 +2,10 @@
 
 ghost use Rattle.std.specs.Prelude.{◌≡◌, ◌≢◌, IfErr, IfOk, Ok};
 ghost use Rattle.sight_names.specs.Map.{map_of};
-ghost use Rattle.map_answers.specs.Groups.{AreGroupsOver};
+ghost use Rattle.map_answers.specs.Groups.{AreGroupsOverPlan};
 ghost use Rattle.doomsight_c.specs.Lumps.{of_lumps_given};
 ghost use Rattle.pair_answer.specs.Answer.{IsAnswerFor};
-ghost use Rattle.doomsight_c.specs.Said.{DeniesPair, IsAnswered, IsSaid, IsUnsaid, of_sectors as of_sectors_said};
+ghost use Rattle.doomsight_c.specs.Said.{DeniesPair, IsPairAnswered, IsSaid, IsRefusalTold, of_sectors as of_sectors_said};
 
 use crate::answer::{DoomsightAnswer, answer_of};
 use crate::fault::{DoomsightFault, fault_of};
@@ -26,7 +26,7 @@ fn answer_over(
     ask: Ask,
     pair: Pair,
 ) -> Result<PairAnswer, Memory>
-    requires { AreGroupsOver plan.now groups.now }
+    requires { AreGroupsOverPlan plan.now groups.now }
     ensures { IfOk result (IsAnswerFor (map_of plan.now) ask pair) }
 {
     pair_answer(alloc, plan, &groups.mesh, &groups.grouped, ask, pair)
@@ -47,7 +47,7 @@ fn of_sectors(given: PairAnswer) -> Result<PairAnswer, Status>
 
 /// The answer for two sectors, where the map is sound and has both.
 fn answer_audited(alloc: Global, plan: &Plan, ask: Ask, pair: Pair) -> Result<PairAnswer, Status>
-    ensures answered { IfOk result (IsAnswered (map_of plan.now) ask pair) }
+    ensures answered { IfOk result (IsPairAnswered (map_of plan.now) ask pair) }
     ensures refused { IfErr result (DeniesPair (map_of plan.now) pair) }
 {
     answers_tell_sight();
@@ -67,7 +67,7 @@ fn why_plan(
     pair: Pair,
 ) -> Result<DoomsightAnswer, DoomsightFault>
     ensures said { IfOk result (IsSaid (Ok (map_of plan.now)) ask pair) }
-    ensures refused { IfErr result (IsUnsaid (Ok (map_of plan.now)) pair) }
+    ensures refused { IfErr result (IsRefusalTold (Ok (map_of plan.now)) pair) }
     ensures code { IfErr result (λ f. f.code ≢ 0) }
 {
     faults_tell_statuses();
@@ -89,7 +89,7 @@ pub fn why_lumps(
     pair: Pair,
 ) -> Result<DoomsightAnswer, DoomsightFault>
     ensures said { IfOk result (IsSaid (of_lumps_given reading linedefs.now sidedefs.now vertexes.now sectors.now) ask pair) }
-    ensures refused { IfErr result (IsUnsaid (of_lumps_given reading linedefs.now sidedefs.now vertexes.now sectors.now) pair) }
+    ensures refused { IfErr result (IsRefusalTold (of_lumps_given reading linedefs.now sidedefs.now vertexes.now sectors.now) pair) }
     ensures code { IfErr result (λ f. f.code ≢ 0) }
 {
     faults_tell_statuses();

@@ -17,14 +17,14 @@ use Rattle.face_groups.proofs.GroupsBase.SameLines.{lines_alike, misses_solid_al
 use Rattle.face_groups.proofs.GroupsBase.SamePoints.{mesh_alike, place_alike}
 use Rattle.triangulate.proofs.GroupLaws.WholeLaws.{groups_are_map, groups_are_sound, in_sector_by_groups, sectors_see_by_groups}
 use Rattle.group_job.proofs.KeptFaces.{good_mesh}
-use Rattle.map_answers.specs.Groups.{IsOverGroups, MapGroups}
+use Rattle.map_answers.specs.Groups.{IsMapWithGroups, MapGroups}
 use Rattle.pair_answer.specs.declared.entered_triangles.entered.Entered.{Entered}
 use Rattle.pair_answer.specs.EnteredTriangles.Laws.{InNumbered}
 use Rattle.pair_answer.proofs.EnteredTriangles.Told.{sight_stays, unseen_not_entered}
 use Rattle.draw_answers.specs.Pair.{IsEnteredOver}
 use Rattle.draw_answers.specs.Laws.{BlindIsClosed, InEntered, InFaceOf, UnseenIsNotShown}
 
-module _ (p : PlanParts) (plan : IsPlan p) (g : MapGroups) (over : IsOverGroups (map_of p) g) where
+module _ (p : PlanParts) (plan : IsPlan p) (g : MapGroups) (over : IsMapWithGroups (map_of p) g) where
   is_map : IsMap g.grouped
   is_map = groups_are_map p plan over.faces g.triangles over.mesh g.groups over.are g.grouped over.is
 

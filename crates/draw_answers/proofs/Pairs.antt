@@ -14,8 +14,8 @@ use Rattle.map_picture.specs.declared.pair.Stop.{Stop}
 use Rattle.map_answers.specs.declared.sight_status.status.Status.{Status}
 use Rattle.map_answers.specs.declared.sight_status.status.Status.TheVariants as status
 use Rattle.map_answers.specs.declared.sight_status.status.Why.TheVariants as why
-use Rattle.map_answers.specs.SightStatus.Answer.{Gives}
-use Rattle.map_answers.specs.Groups.{IsOverGroups, MapGroups}
+use Rattle.map_answers.specs.SightStatus.Answer.{GivesCalled}
+use Rattle.map_answers.specs.Groups.{IsMapWithGroups, MapGroups}
 use Rattle.map_answers.specs.Sound.{HasSoundLines}
 use Rattle.pair_answer.specs.declared.answer.PairAnswer.{PairAnswer}
 use Rattle.pair_answer.specs.Answer.{IsAnswerFor}
@@ -27,7 +27,7 @@ use Rattle.map_picture.specs.Picture.{NamedParts}
 use Rattle.draw_answers.specs.declared.drawn.Drawn.{Drawn}
 use Rattle.draw_answers.specs.declared.entering.Area.{Area}
 use Rattle.draw_answers.specs.Drawn.{Drawing, IsMadeOf, drawing, drawn_answer}
-use Rattle.draw_answers.specs.Pair.{DrawPairCalls, IsAreaOfPair, IsEnteredFrom, IsEnteredOver, IsPairIfMade, ShowsBlind, ShowsEntered, ShowsPair, entered_drawing, word_drawing}
+use Rattle.draw_answers.specs.Pair.{DrawPairCalls, IsAreaOfPair, IsEnteredFrom, IsEnteredOver, IsPairIfMade, ShowsBlind, DrawsEntered, ShowsPair, entered_drawing, word_drawing}
 
 -- ---- what is entered
 
@@ -62,8 +62,8 @@ module _ (g : MapGroups) (budget : Budget) (n : ℕ) (triangles : AreTriangles n
 -- ---- what an answer calls for
 
 module _ (name : NamedParts) (m : Map) (pair : Pair) (g : MapGroups) (ask : Ask) where
-  shown_of : (budget : Budget) (sector s : ℕ) (e : Entered) (d : Drawing) → sector ≡ s → IsEnteredOver g budget sector e → d ≡ entered_drawing name m pair g sector e.triangles.items e.stops.items → ShowsEntered name m pair g budget s d
-  shown_of budget sector s e d of over same = subst (λ (n : ℕ). ShowsEntered name m pair g budget n d) of (record { entered = e; over = over; is = same })
+  shown_of : (budget : Budget) (sector s : ℕ) (e : Entered) (d : Drawing) → sector ≡ s → IsEnteredOver g budget sector e → d ≡ entered_drawing name m pair g sector e.triangles.items e.stops.items → DrawsEntered name m pair g budget s d
+  shown_of budget sector s e d of over same = subst (λ (n : ℕ). DrawsEntered name m pair g budget n d) of (record { entered = e; over = over; is = same })
 
   pub shows_entered : (budget : Budget) (area : Area) → IsBudgetOf g.grouped ask budget → IsAreaOfPair g budget pair (Some area) → (r : Result Drawn Memory)
       → IfOk r (λ d. drawing d ≡ entered_drawing name m pair g area.sector area.entered.triangles.items area.entered.stops.items) → IfOk r (λ d. ShowsBlind name m pair g ask (drawing d))
@@ -80,8 +80,8 @@ module _ (name : NamedParts) (m : Map) (pair : Pair) (g : MapGroups) (ask : Ask)
   shown_made given (Ok d) s h made = subst (λ (x : Result Drawn Status). IsPairIfMade name m pair g ask given x) (sym made) h
   shown_made given (Err e) s h made = subst (λ (x : Result Drawn Status). IsPairIfMade name m pair g ask given x) (sym made) tt
 
-  module _ (out : List ℕ) (lines : HasSoundLines m) (over : IsOverGroups m g) where
-    pub gives_pair : (given : PairAnswer) → IsAnswerFor m ask pair given → (s : Result Drawn Status) → IsPairIfMade name m pair g ask given s → Gives (¬ HasClosedFaces m) (DrawPairCalls name out ask pair m) (drawn_answer out s)
+  module _ (out : List ℕ) (lines : HasSoundLines m) (over : IsMapWithGroups m g) where
+    pub gives_pair : (given : PairAnswer) → IsAnswerFor m ask pair given → (s : Result Drawn Status) → IsPairIfMade name m pair g ask given s → GivesCalled (¬ HasClosedFaces m) (DrawPairCalls name out ask pair m) (drawn_answer out s)
     gives_pair given is_answer (Ok d) h = record {
       called = (lines.meet, record { groups = g; over = over; called = record { given = given; is_answer = is_answer; shown = drawing d; shows = h; is = refl } });
       only = λ sole. absurd (sole over.faces);

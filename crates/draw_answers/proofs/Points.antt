@@ -11,7 +11,7 @@ use Rattle.sight_names.specs.Plan.{IsPlan, PlanParts}
 use Rattle.sight_names.proofs.PlanPoints.{plan_points}
 use Rattle.face_groups.proofs.GroupsBase.SamePoints.{points_alike}
 use Rattle.map_answers.specs.declared.groups.MeshGroups.{MeshGroups}
-use Rattle.map_answers.specs.Groups.{AreGroupsOver}
+use Rattle.map_answers.specs.Groups.{AreGroupsOverPlan}
 
 -- ---- sectors
 
@@ -40,7 +40,7 @@ module _ (m : Map) (is_map : IsMap m) (groups : List (List ℕ)) (are : AreGroup
 
 -- ---- points
 
-module _ (p : PlanParts) (plan : IsPlan p) (g : MeshGroups) (over : AreGroupsOver p g) where
+module _ (p : PlanParts) (plan : IsPlan p) (g : MeshGroups) (over : AreGroupsOverPlan p g) where
   pub as_many : IsPlan g.grouped.plan → g.mesh.points ≡ length p.points
   as_many own = over.points ∙ ap (λ (ps : List Pt). length ps) (sym (plan_points g.grouped.plan own) ∙ sym (points_alike (map_of p) (map_of g.grouped.plan) over.over.is.lines) ∙ plan_points p plan)
 

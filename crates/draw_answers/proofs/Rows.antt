@@ -7,8 +7,8 @@ use Rattle.reject_bits.specs.Parts.{TableParts}
 use Rattle.map_answers.specs.declared.sight_status.status.Status.{Status}
 use Rattle.map_answers.specs.declared.sight_status.status.Status.TheVariants as status
 use Rattle.map_answers.specs.declared.sight_status.status.Why.TheVariants as why
-use Rattle.map_answers.specs.SightStatus.Answer.{Answer, Gives}
-use Rattle.map_answers.specs.Groups.{IsOverGroups, MapGroups}
+use Rattle.map_answers.specs.SightStatus.Answer.{Answer, GivesCalled}
+use Rattle.map_answers.specs.Groups.{IsMapWithGroups, MapGroups}
 use Rattle.map_answers.specs.Sound.{HasSoundLines}
 use Rattle.map_answers.proofs.Closed.{gives_called}
 use Rattle.map_picture.specs.Picture.{NamedParts}
@@ -26,5 +26,5 @@ module _ (name : NamedParts) (out : List ℕ) (m : Map) (t : TableParts) (a : �
   only_none le (Err (status.No (why.NoSector k))) q = ap (λ (n : ℕ). Err (status.No (why.NoSector n))) q.0
   only_none le (Err s) q = absurd q
 
-pub gives_none : (p : PlanParts) (name : NamedParts) (out : List ℕ) (t : TableParts) (a : ℕ) (g : MapGroups) → IsPlan p → HasSoundLines (map_of p) → IsOverGroups (map_of p) g → p.sectors ≤ a → Gives ⊤ (DrawRowCalls name out t a (map_of p)) (Err (status.No (why.NoSector a)))
+pub gives_none : (p : PlanParts) (name : NamedParts) (out : List ℕ) (t : TableParts) (a : ℕ) (g : MapGroups) → IsPlan p → HasSoundLines (map_of p) → IsMapWithGroups (map_of p) g → p.sectors ≤ a → GivesCalled ⊤ (DrawRowCalls name out t a (map_of p)) (Err (status.No (why.NoSector a)))
 gives_none p name out t a g plan lines over le = gives_called p plan (RowCall name out (map_of p) t a) g (Err (status.No (why.NoSector a))) lines over (refl, le) (only_none name out (map_of p) t a g le) tt

@@ -13,7 +13,7 @@ use Rattle.map_picture.proofs.Marking.{arrows_shown, faults_shown, marks_shown}
 use Rattle.map_picture.proofs.Ordered.{lines_shown}
 use Rattle.pair_answer.proofs.Sectors.{answers_said, answers_tell}
 use Rattle.draw_answers.specs.Drawn.{Drawing, one_picture}
-use Rattle.draw_answers.specs.Faults.{DrawsFault, IsFaultOf}
+use Rattle.draw_answers.specs.Faults.{DrawsFault, IsAuditFaultOf}
 use Rattle.draw_answers.specs.Heat.{most_seen, seen_by}
 use Rattle.draw_answers.specs.Laws.{FaultsAreMarked, HeatTellsTables, MarksFault, PairsAreOfBuilds, PlansShowLines, RowsTellTables}
 
@@ -37,7 +37,7 @@ plans_shown name out m answer h =
 pub faults_marked : FaultsAreMarked
 faults_marked name out m answer h = go h.fault h.first h.shown h.draws h.is
   where
-    go : (o : Option Flaw) → IsFaultOf m o → (d : Drawing) → DrawsFault name m o d → answer ≡ one_picture out d → MarksFault name.places out m answer
+    go : (o : Option Flaw) → IsAuditFaultOf m o → (d : Drawing) → DrawsFault name m o d → answer ≡ one_picture out d → MarksFault name.places out m answer
     go (Some which) first d draws is =
         let x = draws.marks in
         record {

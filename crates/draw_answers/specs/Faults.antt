@@ -11,7 +11,7 @@ use Rattle.map_answers.specs.declared.sight_status.status.Flaw.TheVariants as fl
 use Rattle.map_answers.specs.SightStatus.Answer.{Answer}
 use Rattle.map_picture.specs.Bytes.{svg_of}
 use Rattle.map_picture.specs.Picture.{NamedParts, marked_picture, plan_picture}
-use Rattle.map_answers.specs.Groups.{IsOverGroups, MapGroups}
+use Rattle.map_answers.specs.Groups.{IsMapWithGroups, MapGroups}
 use Rattle.map_answers.specs.Sound.{IsFlaw}
 use Rattle.draw_answers.specs.Drawn.{Drawing, one_picture}
 use Rattle.draw_answers.specs.Lines.{faultless_line, flaw_line}
@@ -35,29 +35,29 @@ abbrev pub plain_drawing : NamedParts → Map → MapGroups → Drawing
 plain_drawing name m g = record { bytes = svg_of m (plan_picture name m g.groups g.triangles g.labels); line = faultless_line name.text }
 
 -- the plan over the groups of a map without a fault
-pub record IsPlain (name : NamedParts) (m : Map) (d : Drawing) : Type 0 where
+pub record IsPlainDrawing (name : NamedParts) (m : Map) (d : Drawing) : Type 0 where
   pub groups : MapGroups
-  pub over : IsOverGroups m groups
+  pub over : IsMapWithGroups m groups
   pub is : d ≡ plain_drawing name m groups
 
 -- what is drawn of a map of which this fault is told first, or none
 abbrev pub DrawsFault : NamedParts → Map → Option Flaw → Drawing → Type 0
 DrawsFault name m (Some which) d = ShowsFlaw name m which d
-DrawsFault name m None d = IsPlain name m d
+DrawsFault name m None d = IsPlainDrawing name m d
 
 -- what the audit tells first, or nothing
-abbrev pub IsFaultOf : Map → Option Flaw → Type 0
-IsFaultOf m (Some which) = IsFlaw m (Err (status.BadMap which))
-IsFaultOf m None = HasClosedFaces m
+abbrev pub IsAuditFaultOf : Map → Option Flaw → Type 0
+IsAuditFaultOf m (Some which) = IsFlaw m (Err (status.BadMap which))
+IsAuditFaultOf m None = HasClosedFaces m
 
-pub record ShowsFault (name : NamedParts) (out : List ℕ) (m : Map) (answer : Answer) : Type 0 where
+pub record ShowsAuditFault (name : NamedParts) (out : List ℕ) (m : Map) (answer : Answer) : Type 0 where
   pub fault : Option Flaw
-  pub first : IsFaultOf m fault
+  pub first : IsAuditFaultOf m fault
   pub shown : Drawing
   pub draws : DrawsFault name m fault shown
   pub is : answer ≡ one_picture out shown
 
 -- the answers that it calls for; no map is refused for its faults
 abbrev pub DrawFaultsCalls : NamedParts → List ℕ → Map → Result Answer Status → Type 0
-DrawFaultsCalls name out m (Ok answer) = ShowsFault name out m answer
+DrawFaultsCalls name out m (Ok answer) = ShowsAuditFault name out m answer
 DrawFaultsCalls name out m (Err refusal) = ⊥

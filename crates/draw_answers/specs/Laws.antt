@@ -21,11 +21,11 @@ use Rattle.group_job.specs.Built.{DecidesByGroups}
 use Rattle.map_picture.specs.Bytes.{svg_of}
 use Rattle.map_picture.specs.Picture.{NamedParts, Element, most_of}
 use Rattle.map_picture.specs.Laws.{ShowsArrows, ShowsFaces, ShowsFaults, ShowsLines, ShowsMarks, TellsHeat, TellsRow}
-use Rattle.map_answers.specs.Groups.{IsOverGroups, MapGroups}
-use Rattle.pair_answer.specs.Laws.{IsSaidOf, TellsSight}
+use Rattle.map_answers.specs.Groups.{IsMapWithGroups, MapGroups}
+use Rattle.pair_answer.specs.Laws.{IsSaidByBuild, AnswerTellsSight}
 use Rattle.pair_answer.specs.declared.entered_triangles.entered.Entered.{Entered}
 use Rattle.fault_marks.specs.declared.marks.FaultMarks.{FaultMarks}
-use Rattle.draw_answers.specs.Faults.{AreMarksOf, DrawFaultsCalls, IsFaultOf}
+use Rattle.draw_answers.specs.Faults.{AreMarksOf, DrawFaultsCalls, IsAuditFaultOf}
 use Rattle.draw_answers.specs.Heat.{DrawHeatCalls, most_seen, seen_by}
 use Rattle.draw_answers.specs.Pair.{DrawPairCalls, DrawsPair, IsEnteredOver}
 use Rattle.draw_answers.specs.Plan.{DrawPlanCalls}
@@ -52,7 +52,7 @@ pub record TellsMarks (places : ℕ) (m : Map) (which : Flaw) (picture : List El
 -- .. and, if the map has a fault, those that the first one calls for
 pub record MarksFault (places : ℕ) (out : List ℕ) (m : Map) (answer : Answer) : Type 0 where
   pub fault : Option Flaw
-  pub first : IsFaultOf m fault
+  pub first : IsAuditFaultOf m fault
   pub picture : List Element
   pub writes : WritesPicture out m answer picture
   pub marks : IfSome fault (λ which. TellsMarks places m which picture)
@@ -65,7 +65,7 @@ pub record TellsTable (out : List ℕ) (m : Map) (t : TableParts) (a : ℕ) (ans
   pub picture : List Element
   pub writes : WritesPicture out m answer picture
   pub groups : MapGroups
-  pub over : IsOverGroups m groups
+  pub over : IsMapWithGroups m groups
   pub faces : ShowsFaces groups.groups groups.triangles groups.labels (TellsRow t a) picture
 
 abbrev pub RowsTellTables : Type 0
@@ -76,7 +76,7 @@ pub record TellsHeatOf (out : List ℕ) (m : Map) (t : TableParts) (answer : Ans
   pub picture : List Element
   pub writes : WritesPicture out m answer picture
   pub groups : MapGroups
-  pub over : IsOverGroups m groups
+  pub over : IsMapWithGroups m groups
   pub faces : ShowsFaces groups.groups groups.triangles groups.labels (TellsHeat (most_seen t) (most_of (seen_by t groups.groups))) picture
 
 abbrev pub HeatTellsTables : Type 0
@@ -87,10 +87,10 @@ HeatTellsTables = (name : NamedParts) (out : List ℕ) (m : Map) (t : TableParts
 -- The picture is of an answer that is what a build says of the pair, and that tells whether the two sectors see each other.
 pub record IsDrawnAs (name : NamedParts) (out : List ℕ) (m : Map) (ask : Ask) (pair : Pair) (b : GroupBuilt) (answer : Answer) : Type 0 where
   pub groups : MapGroups
-  pub over : IsOverGroups m groups
+  pub over : IsMapWithGroups m groups
   pub drawn : DrawsPair name out m ask pair groups answer
-  pub built : IsSaidOf b pair drawn.given
-  pub sight : TellsSight m pair drawn.given
+  pub built : IsSaidByBuild b pair drawn.given
+  pub sight : AnswerTellsSight m pair drawn.given
 
 abbrev pub PairsAreOfBuilds : Type 0
 PairsAreOfBuilds = (p : PlanParts) (name : NamedParts) (out : List ℕ) (ask : Ask) (pair : Pair) (b : GroupBuilt) (answer : Answer) → IsPlan p → DecidesByGroups (map_of p) ask b
@@ -118,10 +118,10 @@ pub record InEntered (m : Map) (g : MapGroups) (e : Entered) (q : Point) : Type 
 
 -- each point s of a segment from a point q of the sector that misses all solid lines is in one of these
 abbrev pub BlindIsClosed : Type 0
-BlindIsClosed = (p : PlanParts) (g : MapGroups) (budget : Budget) (a : ℕ) (e : Entered) (q r s : Point) → IsPlan p → IsOverGroups (map_of p) g → IsEnteredOver g budget a e
+BlindIsClosed = (p : PlanParts) (g : MapGroups) (budget : Budget) (a : ℕ) (e : Entered) (q r s : Point) → IsPlan p → IsMapWithGroups (map_of p) g → IsEnteredOver g budget a e
     → InSector (map_of p) q a → MissesSolid (map_of p) q r → OnSegment q r s → InFaceOf (map_of p) g a s ⊎ InEntered (map_of p) g e s
 
 -- no triangle that is entered has a group with sector b, if sector a doesn't see it
 abbrev pub UnseenIsNotShown : Type 0
-UnseenIsNotShown = (p : PlanParts) (g : MapGroups) (budget : Budget) (a b : ℕ) (e : Entered) → IsPlan p → IsOverGroups (map_of p) g → IsEnteredOver g budget a e → ¬ Sees (map_of p) a b
+UnseenIsNotShown = (p : PlanParts) (g : MapGroups) (budget : Budget) (a b : ℕ) (e : Entered) → IsPlan p → IsMapWithGroups (map_of p) g → IsEnteredOver g budget a e → ¬ Sees (map_of p) a b
     → (k f : ℕ) → Contains e.triangles.items k → IsInGroup g.groups b f → ¬ (label_of g.labels k ≡ Some f)

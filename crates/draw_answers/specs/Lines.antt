@@ -8,7 +8,7 @@ use Rattle.sight_names.specs.Points.{lines_of}
 use Rattle.reject_bits.specs.Parts.{TableParts}
 use Rattle.map_answers.specs.declared.sight_status.status.Flaw.{Flaw}
 use Rattle.map_answers.specs.SightStatus.Texts.{flaw_words}
-use Rattle.map_answers.specs.Counts.{is_set}
+use Rattle.map_answers.specs.Counts.{is_pair_set}
 
 abbrev pub plan_line_of : List ℕ → ℕ → ℕ → List ℕ
 plan_line_of name lines sectors = codes "drawn " ++ name ++ codes " lines " ++ decimal lines ++ codes " sectors " ++ decimal sectors ++ codes "\n"
@@ -19,7 +19,7 @@ plan_line name m = plan_line_of name (length (lines_of m)) m.sectors
 
 -- how many bits of the row of sector a are set
 unfoldable pub set_in_row : TableParts → ℕ → ℕ
-set_in_row t a = count_by (is_set t a) (range_with_len 0 t.n)
+set_in_row t a = count_by (is_pair_set t a) (range_with_len 0 t.n)
 
 abbrev pub row_line_of : List ℕ → ℕ → ℕ → ℕ → List ℕ
 row_line_of name a set clear = codes "drawn " ++ name ++ codes " row " ++ decimal a ++ codes " set " ++ decimal set ++ codes " clear " ++ decimal clear ++ codes "\n"
@@ -32,8 +32,8 @@ abbrev pub pair_front : List ℕ → Pair → List ℕ
 pair_front name pair = codes "drawn " ++ name ++ codes " pair " ++ decimal pair.a ++ codes " " ++ decimal pair.b
 
 -- a pair's line that ends with a word
-abbrev pub pair_line : List ℕ → Pair → List ℕ → List ℕ
-pair_line name pair word = pair_front name pair ++ word
+abbrev pub drawing_pair_line : List ℕ → Pair → List ℕ → List ℕ
+drawing_pair_line name pair word = pair_front name pair ++ word
 
 -- out of which sector of the pair is seen; the first one goes without saying
 abbrev pub of_words : Pair → ℕ → List ℕ

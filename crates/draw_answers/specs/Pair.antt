@@ -24,7 +24,7 @@ use Rattle.pair_answer.specs.EnteredTriangles.Walks.{IsOneSpent}
 use Rattle.draw_answers.specs.declared.drawn.Drawn.{Drawn}
 use Rattle.draw_answers.specs.declared.entering.Area.{Area}
 use Rattle.draw_answers.specs.Drawn.{Drawing, drawing, one_picture}
-use Rattle.draw_answers.specs.Lines.{blind_line_of, pair_line}
+use Rattle.draw_answers.specs.Lines.{blind_line_of, drawing_pair_line}
 
 -- ---- what sight out of a sector enters
 
@@ -56,25 +56,25 @@ module _ (g : MapGroups) (budget : Budget) where
 
 module _ (name : NamedParts) (m : Map) (pair : Pair) (g : MapGroups) where
   abbrev pub sight_drawing : Ray → Drawing
-  sight_drawing ray = record { bytes = svg_of m (sight_picture name m g.groups g.triangles g.labels pair.a pair.b ray); line = pair_line name.text pair (codes " sight\n") }
+  sight_drawing ray = record { bytes = svg_of m (sight_picture name m g.groups g.triangles g.labels pair.a pair.b ray); line = drawing_pair_line name.text pair (codes " sight\n") }
 
   -- the faces alone
   abbrev pub word_drawing : List ℕ → Drawing
-  word_drawing word = record { bytes = svg_of m (pair_picture name m g.groups g.triangles g.labels pair.a pair.b); line = pair_line name.text pair word }
+  word_drawing word = record { bytes = svg_of m (pair_picture name m g.groups g.triangles g.labels pair.a pair.b); line = drawing_pair_line name.text pair word }
 
   -- .. with triangles and stops as those of this sector: its number is the title of the triangles, and it is told by the line
   abbrev pub entered_drawing : ℕ → List ℕ → List Stop → Drawing
   entered_drawing sector entered stops = record { bytes = svg_of m (blind_picture name m g.groups g.triangles g.labels pair.a pair.b sector entered stops); line = blind_line_of name.text pair sector (length entered) (length stops) }
 
   -- what sight out of the sector enters, shown as that
-  pub record ShowsEntered (budget : Budget) (sector : ℕ) (d : Drawing) : Type 0 where
+  pub record DrawsEntered (budget : Budget) (sector : ℕ) (d : Drawing) : Type 0 where
     pub entered : Entered
     pub over : IsEnteredOver g budget sector entered
     pub is : d ≡ entered_drawing sector entered.triangles.items entered.stops.items
 
   -- out of the first sector; where a budget runs out, out of the second; where one runs out there too, nothing is shown as entered
   abbrev pub ShowsBlindOver : Budget → Drawing → Type 0
-  ShowsBlindOver budget d = ShowsEntered budget pair.a d ⊎ (RunsOut g budget pair.a × ShowsEntered budget pair.b d) ⊎ (RunsOut g budget pair.a × RunsOut g budget pair.b × (d ≡ word_drawing (codes " blind\n")))
+  ShowsBlindOver budget d = DrawsEntered budget pair.a d ⊎ (RunsOut g budget pair.a × DrawsEntered budget pair.b d) ⊎ (RunsOut g budget pair.a × RunsOut g budget pair.b × (d ≡ word_drawing (codes " blind\n")))
 
   -- .. within the budget that is asked for
   abbrev pub ShowsBlind : Ask → Drawing → Type 0

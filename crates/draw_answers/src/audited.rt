@@ -2,7 +2,7 @@
 
 ghost use Rattle.std.specs.Prelude.{◌≡◌, IfErr, IfOk, length};
 ghost use Rattle.sight_names.specs.Map.{map_of};
-ghost use Rattle.map_answers.specs.Groups.{AreGroupsOver};
+ghost use Rattle.map_answers.specs.Groups.{AreGroupsOverPlan};
 ghost use Rattle.map_answers.specs.Sound.{HasSoundLines, IsAuditRefusal};
 
 use map_answers::sight_status::Status;
@@ -20,7 +20,7 @@ pub fn count_of(plan: &Plan) -> u16
 /// The whole audit of a map, and its groups; their mesh is one over the points of the map, too.
 pub fn groups_of(alloc: Global, plan: &Plan) -> Result<MeshGroups, Status>
     ensures lines { IfOk result (λ _. HasSoundLines (map_of plan.now)) }
-    ensures groups { IfOk result (AreGroupsOver plan.now) }
+    ensures groups { IfOk result (AreGroupsOverPlan plan.now) }
     ensures points { IfOk result (λ groups. groups.mesh.points ≡ length plan.now.points) }
     ensures refusals { IfErr result (IsAuditRefusal (map_of plan.now)) }
 {

@@ -1,7 +1,7 @@
 //! What sight out of the groups of a sector enters, and where it ends.
 
 ghost use Rattle.std.specs.Prelude.{IfOk};
-ghost use Rattle.map_answers.specs.Groups.{AreGroupsOver, seen};
+ghost use Rattle.map_answers.specs.Groups.{AreGroupsOverPlan, seen};
 ghost use Rattle.draw_answers.specs.Pair.{IsAreaOfPair, IsEnteredFrom};
 
 use crate::audited::count_of;
@@ -26,7 +26,7 @@ fn entered_from(
     budget: Budget,
     sector: u16,
 ) -> Result<Option<Entered>, Memory>
-    requires groups { AreGroupsOver plan.now groups.now }
+    requires groups { AreGroupsOverPlan plan.now groups.now }
     ensures { IfOk result (IsEnteredFrom (seen groups.now) budget sector) }
 {
     let grouped = &groups.grouped;
@@ -50,7 +50,7 @@ pub fn area_of_pair(
     budget: Budget,
     pair: Pair,
 ) -> Result<Option<Area>, Memory>
-    requires groups { AreGroupsOver plan.now groups.now }
+    requires groups { AreGroupsOverPlan plan.now groups.now }
     ensures { IfOk result (IsAreaOfPair (seen groups.now) budget pair) }
 {
     let sector = pair.a;

@@ -3,9 +3,9 @@
 ghost use Rattle.std.specs.Prelude.{◌≡◌, IfErr, IfOk, List, ℕ, length, ⊤};
 ghost use Rattle.sight_names.specs.Map.{map_of};
 ghost use Rattle.map_answers.specs.declared.sight_status.status.Status.TheVariants as status;
-ghost use Rattle.map_answers.specs.Groups.{AreGroupsOver, seen};
+ghost use Rattle.map_answers.specs.Groups.{AreGroupsOverPlan, seen};
 ghost use Rattle.map_answers.specs.Sound.{IsAuditRefusal};
-ghost use Rattle.map_answers.specs.SightStatus.Answer.{Gives};
+ghost use Rattle.map_answers.specs.SightStatus.Answer.{GivesCalled};
 ghost use Rattle.draw_answers.specs.Drawn.{drawing, drawn_answer};
 ghost use Rattle.draw_answers.specs.Faults.{AreMarksOf, DrawFaultsCalls, ShowsFlaw, flaw_drawing, plain_drawing};
 
@@ -65,7 +65,7 @@ fn drawn_plain(
     groups: &MeshGroups,
     map: &Named<'_>,
 ) -> Result<Drawn, Memory>
-    requires groups { AreGroupsOver plan.now groups.now }
+    requires groups { AreGroupsOverPlan plan.now groups.now }
     requires points { groups.now.mesh.points ≡ length plan.now.points }
     ensures { IfOk result (λ d. drawing d ≡ plain_drawing map.now (map_of plan.now) (seen groups.now)) }
 {
@@ -82,7 +82,7 @@ fn drawn_refused(
     refusal: Status,
 ) -> Result<Drawn, Status>
     requires { IsAuditRefusal (map_of plan.now) refusal }
-    ensures judged { (out : List ℕ) → Gives ⊤ (DrawFaultsCalls map.now out (map_of plan.now)) (drawn_answer out result) }
+    ensures judged { (out : List ℕ) → GivesCalled ⊤ (DrawFaultsCalls map.now out (map_of plan.now)) (drawn_answer out result) }
     ensures refusals { IfErr result (λ s. s ≡ status.Memory tt) }
 {
     match refusal {
@@ -96,7 +96,7 @@ fn drawn_refused(
 /// The picture of any map's plan, in which its faults are marked: the first thousand pairs of lines that clash, or where none do the
 /// open sides, the torn corners with the ways round them, and the loose ends. The line is of the fault that an audit tells.
 pub fn draw_faults(alloc: Global, plan: &Plan, map: &Named<'_>) -> Result<Drawn, Status>
-    ensures judged { (out : List ℕ) → Gives ⊤ (DrawFaultsCalls map.now out (map_of plan.now)) (drawn_answer out result) }
+    ensures judged { (out : List ℕ) → GivesCalled ⊤ (DrawFaultsCalls map.now out (map_of plan.now)) (drawn_answer out result) }
     ensures refusals { IfErr result (λ s. s ≡ status.Memory tt) }
 {
     match groups_of(alloc, plan) {

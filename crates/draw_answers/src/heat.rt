@@ -2,8 +2,8 @@
 
 ghost use Rattle.std.specs.Prelude.{◌≡◌, ◌<◌, ◌≤◌, ◌-◌, All, IfErr, IfOk, List, ℕ, length, map, ⊤};
 ghost use Rattle.sight_names.specs.Map.{map_of};
-ghost use Rattle.map_answers.specs.SightStatus.Answer.{Gives};
-ghost use Rattle.map_answers.specs.Groups.{AreGroupsOver, seen};
+ghost use Rattle.map_answers.specs.SightStatus.Answer.{GivesCalled};
+ghost use Rattle.map_answers.specs.Groups.{AreGroupsOverPlan, seen};
 ghost use Rattle.map_picture.specs.Picture.{most_of as the_most_of};
 ghost use Rattle.draw_answers.specs.Drawn.{IsOfDrawTest, drawing, drawn_answer};
 ghost use Rattle.draw_answers.specs.Heat.{DrawHeatCalls, clear_in_row, heat_drawing, most_seen as the_most_seen, seen_by as the_seen_by};
@@ -59,7 +59,7 @@ fn drawn_heat(
     map: &Named<'_>,
     table: &Table,
 ) -> Result<Drawn, Memory>
-    requires groups { AreGroupsOver plan.now groups.now }
+    requires groups { AreGroupsOverPlan plan.now groups.now }
     requires points { groups.now.mesh.points ≡ length plan.now.points }
     requires table { table.now.n ≡ plan.now.sectors }
     ensures { IfOk result (λ d. drawing d ≡ heat_drawing map.now (map_of plan.now) table.now (seen groups.now)) }
@@ -87,7 +87,7 @@ pub fn draw_heat(
     table: &Table,
 ) -> Result<Drawn, Status>
     requires { table.now.n ≡ plan.now.sectors }
-    ensures judged { (out : List ℕ) → Gives ⊤ (DrawHeatCalls map.now out table.now (map_of plan.now)) (drawn_answer out result) }
+    ensures judged { (out : List ℕ) → GivesCalled ⊤ (DrawHeatCalls map.now out table.now (map_of plan.now)) (drawn_answer out result) }
     ensures refusals { IfErr result IsOfDrawTest }
 {
     let groups = groups_of(alloc, plan)?;

@@ -4,7 +4,7 @@ ghost use Rattle.std.specs.Prelude.{◌≡◌, ◌++◌, IfOk, OnOk, codes, stri
 ghost use Rattle.sight_names.specs.Texts.{side_text};
 ghost use Rattle.map_answers.specs.SightStatus.Texts.{flaw_words, two};
 ghost use Rattle.draw_answers.specs.Heat.{heat_line_of};
-ghost use Rattle.draw_answers.specs.Lines.{blind_line_of as the_blind_line, faultless_line, flaw_line, of_words, pair_front, pair_line, plan_line_of as the_plan_line, row_line_of as the_row_line};
+ghost use Rattle.draw_answers.specs.Lines.{blind_line_of as the_blind_line, faultless_line, flaw_line, of_words, pair_front, drawing_pair_line, plan_line_of as the_plan_line, row_line_of as the_row_line};
 
 use map_answers::sight_status::{
     Flaw, push_clash, push_count, push_count_line, push_number, push_text,
@@ -65,7 +65,7 @@ fn begun(alloc: Global, map: &str, pair: Pair) -> Result<String, AllocError>
 
 /// A pair's line that ends with a word.
 pub fn word_line(alloc: Global, map: &str, pair: Pair, word: &str) -> Result<String, AllocError>
-    ensures { IfOk result (λ line. string_bytes line ≡ pair_line map.now pair word.now) }
+    ensures { IfOk result (λ line. string_bytes line ≡ drawing_pair_line map.now pair word.now) }
 {
     let mut line = begun(alloc, map, pair)?;
     push_text(&mut line, word)?;

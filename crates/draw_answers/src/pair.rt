@@ -4,8 +4,8 @@ ghost use Rattle.std.specs.Prelude.{◌≡◌, ◌<◌, All, IfErr, IfOk, List, 
 ghost use Rattle.sight_names.specs.Groups.{HasClosedFaces};
 ghost use Rattle.sight_names.specs.Map.{map_of};
 ghost use Rattle.map_picture.specs.Picture.{JoinsSectors};
-ghost use Rattle.map_answers.specs.SightStatus.Answer.{Gives};
-ghost use Rattle.map_answers.specs.Groups.{AreGroupsOver, seen};
+ghost use Rattle.map_answers.specs.SightStatus.Answer.{GivesCalled};
+ghost use Rattle.map_answers.specs.Groups.{AreGroupsOverPlan, seen};
 ghost use Rattle.pair_answer.specs.Answer.{IsAnswerFor};
 ghost use Rattle.draw_answers.specs.Drawn.{IsOfDrawTest, drawing, drawn_answer};
 ghost use Rattle.draw_answers.specs.Pair.{DrawPairCalls, IsPairIfMade, ShowsBlind, entered_drawing, sight_drawing, word_drawing};
@@ -30,7 +30,7 @@ fn drawn_word(
     pair: Pair,
     word: &str,
 ) -> Result<Drawn, Memory>
-    requires groups { AreGroupsOver plan.now groups.now }
+    requires groups { AreGroupsOverPlan plan.now groups.now }
     requires points { groups.now.mesh.points ≡ length plan.now.points }
     ensures { IfOk result (λ d. drawing d ≡ word_drawing map.now (map_of plan.now) pair (seen groups.now) word.now) }
 {
@@ -57,7 +57,7 @@ fn drawn_sight(
     pair: Pair,
     ray: &Ray,
 ) -> Result<Drawn, Memory>
-    requires groups { AreGroupsOver plan.now groups.now }
+    requires groups { AreGroupsOverPlan plan.now groups.now }
     requires points { groups.now.mesh.points ≡ length plan.now.points }
     requires ray { JoinsSectors (map_of plan.now) ray.now }
     ensures { IfOk result (λ d. drawing d ≡ sight_drawing map.now (map_of plan.now) pair (seen groups.now) ray.now) }
@@ -86,7 +86,7 @@ fn drawn_entered(
     pair: Pair,
     area: &Area,
 ) -> Result<Drawn, Memory>
-    requires groups { AreGroupsOver plan.now groups.now }
+    requires groups { AreGroupsOverPlan plan.now groups.now }
     requires points { groups.now.mesh.points ≡ length plan.now.points }
     requires triangles { All (λ k. k < length groups.now.mesh.triangles) area.now.entered.triangles.items }
     requires from { All (λ s. s.from < length plan.now.points) area.now.entered.stops.items }
@@ -127,7 +127,7 @@ fn drawn_blind(
     ask: Ask,
     pair: Pair,
 ) -> Result<Drawn, Memory>
-    requires groups { AreGroupsOver plan.now groups.now }
+    requires groups { AreGroupsOverPlan plan.now groups.now }
     requires points { groups.now.mesh.points ≡ length plan.now.points }
     ensures { IfOk result (λ d. ShowsBlind map.now (map_of plan.now) pair (seen groups.now) ask (drawing d)) }
 {
@@ -149,7 +149,7 @@ fn drawn_answer_of(
     pair: Pair,
     answer: PairAnswer,
 ) -> Result<Drawn, Status>
-    requires groups { AreGroupsOver plan.now groups.now }
+    requires groups { AreGroupsOverPlan plan.now groups.now }
     requires points { groups.now.mesh.points ≡ length plan.now.points }
     requires answer { IsAnswerFor (map_of plan.now) ask pair answer }
     ensures shown { IsPairIfMade map.now (map_of plan.now) pair (seen groups.now) ask answer result }
@@ -172,7 +172,7 @@ fn answer_over(
     ask: Ask,
     pair: Pair,
 ) -> Result<PairAnswer, Memory>
-    requires { AreGroupsOver plan.now groups.now }
+    requires { AreGroupsOverPlan plan.now groups.now }
     ensures { IfOk result (IsAnswerFor (map_of plan.now) ask pair) }
 {
     pair_answer(alloc, plan, &groups.mesh, &groups.grouped, ask, pair)
@@ -187,7 +187,7 @@ pub fn draw_pair(
     ask: Ask,
     pair: Pair,
 ) -> Result<Drawn, Status>
-    ensures judged { (out : List ℕ) → Gives (¬ HasClosedFaces (map_of plan.now)) (DrawPairCalls map.now out ask pair (map_of plan.now)) (drawn_answer out result) }
+    ensures judged { (out : List ℕ) → GivesCalled (¬ HasClosedFaces (map_of plan.now)) (DrawPairCalls map.now out ask pair (map_of plan.now)) (drawn_answer out result) }
     ensures refusals { IfErr result IsOfDrawTest }
 {
     let groups = groups_of(alloc, plan)?;

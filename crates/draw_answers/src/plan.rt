@@ -2,8 +2,8 @@
 
 ghost use Rattle.std.specs.Prelude.{◌≡◌, IfErr, IfOk, List, ℕ, length, ⊤};
 ghost use Rattle.sight_names.specs.Map.{map_of};
-ghost use Rattle.map_answers.specs.Groups.{AreGroupsOver, seen};
-ghost use Rattle.map_answers.specs.SightStatus.Answer.{Gives};
+ghost use Rattle.map_answers.specs.Groups.{AreGroupsOverPlan, seen};
+ghost use Rattle.map_answers.specs.SightStatus.Answer.{GivesCalled};
 ghost use Rattle.map_picture.specs.Bytes.{svg_of};
 ghost use Rattle.map_picture.specs.Picture.{plan_picture as the_plan_picture};
 ghost use Rattle.map_answers.specs.SightStatus.Status.{IsOfMapTest};
@@ -26,7 +26,7 @@ pub fn faces_alone(
     groups: &MeshGroups,
     map: &Named<'_>,
 ) -> Result<Vec<u8>, Memory>
-    requires groups { AreGroupsOver plan.now groups.now }
+    requires groups { AreGroupsOverPlan plan.now groups.now }
     requires points { groups.now.mesh.points ≡ length plan.now.points }
     ensures { IfOk result (λ v. v.items ≡ svg_of (map_of plan.now) (the_plan_picture map.now (map_of plan.now) groups.now.grouped.groups groups.now.mesh.triangles groups.now.grouped.labels)) }
 {
@@ -48,7 +48,7 @@ fn drawn_plan(
     groups: &MeshGroups,
     map: &Named<'_>,
 ) -> Result<Drawn, Memory>
-    requires groups { AreGroupsOver plan.now groups.now }
+    requires groups { AreGroupsOverPlan plan.now groups.now }
     requires points { groups.now.mesh.points ≡ length plan.now.points }
     ensures { IfOk result (λ d. drawing d ≡ plan_drawing map.now (map_of plan.now) (seen groups.now)) }
 {
@@ -59,7 +59,7 @@ fn drawn_plan(
 
 /// The picture of a sound map's plan.
 pub fn draw_plan(alloc: Global, plan: &Plan, map: &Named<'_>) -> Result<Drawn, Status>
-    ensures judged { (out : List ℕ) → Gives ⊤ (DrawPlanCalls map.now out (map_of plan.now)) (drawn_answer out result) }
+    ensures judged { (out : List ℕ) → GivesCalled ⊤ (DrawPlanCalls map.now out (map_of plan.now)) (drawn_answer out result) }
     ensures refusals { IfErr result IsOfMapTest }
 {
     let groups = groups_of(alloc, plan)?;

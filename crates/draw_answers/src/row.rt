@@ -2,8 +2,8 @@
 
 ghost use Rattle.std.specs.Prelude.{◌≡◌, ◌≤◌, ◌<◌, IfErr, IfOk, List, ℕ, length, ⊤};
 ghost use Rattle.sight_names.specs.Map.{map_of};
-ghost use Rattle.map_answers.specs.SightStatus.Answer.{Gives};
-ghost use Rattle.map_answers.specs.Groups.{AreGroupsOver, seen};
+ghost use Rattle.map_answers.specs.SightStatus.Answer.{GivesCalled};
+ghost use Rattle.map_answers.specs.Groups.{AreGroupsOverPlan, seen};
 ghost use Rattle.draw_answers.specs.Drawn.{drawing, drawn_answer, IsOfDrawTest};
 ghost use Rattle.draw_answers.specs.Lines.{row_line, set_in_row};
 ghost use Rattle.draw_answers.specs.Row.{DrawRowCalls, row_drawing};
@@ -42,7 +42,7 @@ fn drawn_row(
     table: &Table,
     a: u16,
 ) -> Result<Drawn, Memory>
-    requires groups { AreGroupsOver plan.now groups.now }
+    requires groups { AreGroupsOverPlan plan.now groups.now }
     requires points { groups.now.mesh.points ≡ length plan.now.points }
     requires table { table.now.n ≡ plan.now.sectors }
     requires row { a < plan.now.sectors }
@@ -73,7 +73,7 @@ pub fn draw_row(
     a: u16,
 ) -> Result<Drawn, Status>
     requires { table.now.n ≡ plan.now.sectors }
-    ensures judged { (out : List ℕ) → Gives ⊤ (DrawRowCalls map.now out table.now a (map_of plan.now)) (drawn_answer out result) }
+    ensures judged { (out : List ℕ) → GivesCalled ⊤ (DrawRowCalls map.now out table.now a (map_of plan.now)) (drawn_answer out result) }
     ensures refusals { IfErr result IsOfDrawTest }
 {
     let groups = groups_of(alloc, plan)?;

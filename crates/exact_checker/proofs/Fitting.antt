@@ -12,8 +12,8 @@ use Rattle.mesh_shape.specs.declared.half_edges.table.HalfEdge.{HalfEdge}
 use Rattle.gate_floods.specs.declared.gate_masks.masks.Row.{Row}
 use Rattle.gate_floods.specs.GateMasks.Masks.{HasWords}
 use Rattle.gate_floods.specs.GateMasks.Words.{HasBit, AreBitsOf}
-use Rattle.gate_floods.specs.RowJudge.Asked.{place_at}
-use Rattle.gate_floods.specs.RowJudge.Words.{row_at}
+use Rattle.gate_floods.specs.RowJudge.Asked.{mask_place}
+use Rattle.gate_floods.specs.RowJudge.Words.{row_in_words}
 use Rattle.gate_floods.specs.GateMasks.Behind.{mask_behind}
 use Rattle.exact_checker.specs.Masking.{words_of, fitted, words_at, HaveMasksOf}
 
@@ -61,7 +61,7 @@ fitted_bits row n P room bits c = elim (below_or_not (c / 64) n) as (λ _. HasBi
 
 -- ---- a row among the words of others
 
-row_in_front : (ws more : List ℕ) (width at : ℕ) → at + width ≤ length ws → row_at (ws ++ more) width at ≡ row_at ws width at
+row_in_front : (ws more : List ℕ) (width at : ℕ) → at + width ≤ length ws → row_in_words (ws ++ more) width at ≡ row_in_words ws width at
 row_in_front ws more width zero l = taken ws more width (omega (arith, l))
   where
     taken : (ws more : List ℕ) (n : ℕ) → n ≤ length ws → take n (ws ++ more) ≡ take n ws
@@ -71,7 +71,7 @@ row_in_front ws more width zero l = taken ws more width (omega (arith, l))
 row_in_front [] more width (suc at) l = absurd (omega (arith, l))
 row_in_front (w ∷ ws) more width (suc at) l = row_in_front ws more width at (omega (arith, l))
 
-row_behind : (ws row : List ℕ) (width : ℕ) → length row ≡ width → row_at (ws ++ row) width (length ws) ≡ row
+row_behind : (ws row : List ℕ) (width : ℕ) → length row ≡ width → row_in_words (ws ++ row) width (length ws) ≡ row
 row_behind [] row width e = taken row width e
   where
     taken : (row : List ℕ) (n : ℕ) → length row ≡ n → take n row ≡ row
@@ -122,16 +122,16 @@ module _ (masks : List (Option Row)) (xs : List HalfEdge) (width n : ℕ) (narro
     longer = ap (λ (us : List ℕ). length us) behind.1 ∙ length-append words behind.0
 
     -- the mask of an earlier one is as it was
-    kept : (i at : ℕ) → slice_get places i ≡ Some (Some at) → row_at new width at ≡ row_at words width at
-    kept i at h = ap (λ (us : List ℕ). row_at us width at) behind.1 ∙ row_in_front words behind.0 width at (below.room i at h)
+    kept : (i at : ℕ) → slice_get places i ≡ Some (Some at) → row_in_words new width at ≡ row_in_words words width at
+    kept i at h = ap (λ (us : List ℕ). row_in_words us width at) behind.1 ∙ row_in_front words behind.0 width at (below.room i at h)
 
     -- that of the new one
-    here : option_map (row_at new width) place ≡ fitted width mask
+    here : option_map (row_in_words new width) place ≡ fitted width mask
     here = at mask puts
       where
-        at : (o : Option Row) → Puts width o words place new → option_map (row_at new width) place ≡ fitted width o
-        at None h = ap (option_map (row_at new width)) h.0
-        at (Some r) h = ap (option_map (row_at new width)) h.0 ∙ ap (λ (us : List ℕ). Some (row_at us width (length words))) h.1 ∙ ap (λ (us : List ℕ). Some us) (row_behind words (words_of r.words.items 0 width) width (length_of_words r.words.items 0 width))
+        at : (o : Option Row) → Puts width o words place new → option_map (row_in_words new width) place ≡ fitted width o
+        at None h = ap (option_map (row_in_words new width)) h.0
+        at (Some r) h = ap (option_map (row_in_words new width)) h.0 ∙ ap (λ (us : List ℕ). Some (row_in_words us width (length words))) h.1 ∙ ap (λ (us : List ℕ). Some us) (row_behind words (words_of r.words.items 0 width) width (length_of_words r.words.items 0 width))
 
     new_room : (at : ℕ) → place ≡ Some at → at + width ≤ length new
     new_room at e = by mask puts
@@ -144,10 +144,10 @@ module _ (masks : List (Option Row)) (xs : List HalfEdge) (width n : ℕ) (narro
             let m = length_of_words r.words.items 0 width in
             omega (arith, same, l, m)
 
-    place_before : (i : ℕ) → i < n → place_at (places ++ place ∷ []) i ≡ place_at places i
+    place_before : (i : ℕ) → i < n → mask_place (places ++ place ∷ []) i ≡ mask_place places i
     place_before i lt = at (slice_get places i) refl
       where
-        at : (o : Option (Option ℕ)) → slice_get places i ≡ o → place_at (places ++ place ∷ []) i ≡ place_at places i
+        at : (o : Option (Option ℕ)) → slice_get places i ≡ o → mask_place (places ++ place ∷ []) i ≡ mask_place places i
         at None e = absurd (let w = get_is i lt in none-some w.0 (sym e ∙ w.1))
           where
             get_is : (i : ℕ) → i < n → (o : Option ℕ) × (slice_get places i ≡ Some o)
@@ -155,12 +155,12 @@ module _ (masks : List (Option Row)) (xs : List HalfEdge) (width n : ℕ) (narro
         at (Some o) e = ap (option_and_then (λ (p : Option ℕ). p)) (get_before_pushed places place o i e ∙ sym e)
 
     words_before : (i : ℕ) → i < n → words_at width (places ++ place ∷ []) new i ≡ words_at width places words i
-    words_before i lt = ap (option_map (row_at new width)) (place_before i lt) ∙ at (slice_get places i) refl
+    words_before i lt = ap (option_map (row_in_words new width)) (place_before i lt) ∙ at (slice_get places i) refl
       where
-        at : (o : Option (Option ℕ)) → slice_get places i ≡ o → option_map (row_at new width) (place_at places i) ≡ option_map (row_at words width) (place_at places i)
-        at None e = ap (λ (q : Option (Option ℕ)). option_map (row_at new width) (option_and_then (λ (p : Option ℕ). p) q)) e ∙ sym (ap (λ (q : Option (Option ℕ)). option_map (row_at words width) (option_and_then (λ (p : Option ℕ). p) q)) e)
-        at (Some None) e = ap (λ (q : Option (Option ℕ)). option_map (row_at new width) (option_and_then (λ (p : Option ℕ). p) q)) e ∙ sym (ap (λ (q : Option (Option ℕ)). option_map (row_at words width) (option_and_then (λ (p : Option ℕ). p) q)) e)
-        at (Some (Some j)) e = ap (λ (q : Option (Option ℕ)). option_map (row_at new width) (option_and_then (λ (p : Option ℕ). p) q)) e ∙ ap (λ (us : List ℕ). Some us) (kept i j e) ∙ sym (ap (λ (q : Option (Option ℕ)). option_map (row_at words width) (option_and_then (λ (p : Option ℕ). p) q)) e)
+        at : (o : Option (Option ℕ)) → slice_get places i ≡ o → option_map (row_in_words new width) (mask_place places i) ≡ option_map (row_in_words words width) (mask_place places i)
+        at None e = ap (λ (q : Option (Option ℕ)). option_map (row_in_words new width) (option_and_then (λ (p : Option ℕ). p) q)) e ∙ sym (ap (λ (q : Option (Option ℕ)). option_map (row_in_words words width) (option_and_then (λ (p : Option ℕ). p) q)) e)
+        at (Some None) e = ap (λ (q : Option (Option ℕ)). option_map (row_in_words new width) (option_and_then (λ (p : Option ℕ). p) q)) e ∙ sym (ap (λ (q : Option (Option ℕ)). option_map (row_in_words words width) (option_and_then (λ (p : Option ℕ). p) q)) e)
+        at (Some (Some j)) e = ap (λ (q : Option (Option ℕ)). option_map (row_in_words new width) (option_and_then (λ (p : Option ℕ). p) q)) e ∙ ap (λ (us : List ℕ). Some us) (kept i j e) ∙ sym (ap (λ (q : Option (Option ℕ)). option_map (row_in_words words width) (option_and_then (λ (p : Option ℕ). p) q)) e)
 
     pub masks_more : ((x : HalfEdge) → slice_get xs n ≡ Some x → mask ≡ mask_behind masks x) → MasksBelow masks xs width (n + 1) (places ++ place ∷ []) new
     masks_more is = record {
@@ -174,7 +174,7 @@ module _ (masks : List (Option Row)) (xs : List HalfEdge) (width n : ℕ) (narro
         | inl less ↦ words_before i less ∙ below.have i x less at
         | inr same ↦
             ap (λ (j : ℕ). words_at width (places ++ place ∷ []) new j) (same ∙ sym below.len)
-            ∙ ap (λ (q : Option (Option ℕ)). option_map (row_at new width) (option_and_then (λ (p : Option ℕ). p) q)) (get_pushed places place)
+            ∙ ap (λ (q : Option (Option ℕ)). option_map (row_in_words new width) (option_and_then (λ (p : Option ℕ). p) q)) (get_pushed places place)
             ∙ here ∙ ap (fitted width) (is x (ap (slice_get xs) (sym same) ∙ at))
       ];
     }

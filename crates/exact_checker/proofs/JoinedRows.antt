@@ -9,22 +9,22 @@ use Rattle.math_base.proofs.Lists.{get_there, length_pushed, pushed_at}
 use Rattle.math_base.proofs.Numbers.{same_or_not, below_or_last}
 use Rattle.cert_format.specs.Parts.{CertParts}
 use Rattle.cert_checker.specs.AcceptedGroups.Accepted.{AreGroupsJoined}
-use Rattle.cert_checker.specs.Pairs.{pair, HasRayBelow, IsWithin}
+use Rattle.cert_checker.specs.Pairs.{pair, HasRayBelow, IsPairWithin}
 use Rattle.cert_checker.proofs.Judging.{ray_there, ray_below}
 use Rattle.gate_floods.proofs.RowBits.{joined_told, joined_tells}
 use Rattle.gate_floods.specs.declared.gate_masks.masks.Row.{Row}
 use Rattle.gate_floods.specs.GateMasks.Words.{HasBit, AreBitsOf}
-use Rattle.gate_floods.specs.GateMasks.Masks.{IsIn}
-use Rattle.exact_checker.specs.Rows.{AreRowsOf, IsJoinedBit, AreJoinedRows, IsOwnRow, AreOwnRows, AddsAt}
+use Rattle.gate_floods.specs.GateMasks.Masks.{IsInRowOf}
+use Rattle.exact_checker.specs.Rows.{AreRowsOf, IsJoinedBit, AreJoinedRows, IsRowOfOne, AreOwnRows, AddsAt}
 
 -- ---- rows with their own number
 
-pub own_more : (n m : ℕ) (rows : List Row) (r : Row) → AreOwnRows n m rows → IsOwnRow n m r → AreOwnRows n (m + 1) (rows ++ r ∷ [])
+pub own_more : (n m : ℕ) (rows : List Row) (r : Row) → AreOwnRows n m rows → IsRowOfOne n m r → AreOwnRows n (m + 1) (rows ++ r ∷ [])
 own_more n m rows r all own = record {
   len = let e = length_pushed rows r in let l = all.len in omega (arith, e, l);
-  each = λ f s at. elim (pushed_at rows r s f at) as (λ _. IsOwnRow n f s) [
+  each = λ f s at. elim (pushed_at rows r s f at) as (λ _. IsRowOfOne n f s) [
     | inl h ↦ all.each f s h
-    | inr (e, same) ↦ subst (λ (x : ℕ). IsOwnRow n x s) (sym (e ∙ all.len)) (subst (IsOwnRow n m) same own)
+    | inr (e, same) ↦ subst (λ (x : ℕ). IsRowOfOne n x s) (sym (e ∙ all.len)) (subst (IsRowOfOne n m) same own)
   ];
 }
 
@@ -108,7 +108,7 @@ none_joined n rays rows own = record {
     itself f c (inr (inl (i, r, lt, at, is))) = absurd (omega (arith, lt))
     itself f c (inr (inr (i, r, lt, at, is))) = absurd (omega (arith, lt))
 
-module _ (n i : ℕ) (rays : List PairRay) (r : PairRay) (at : slice_get rays i ≡ Some r) (inside : IsWithin n r.pair) where
+module _ (n i : ℕ) (rays : List PairRay) (r : PairRay) (at : slice_get rays i ≡ Some r) (inside : IsPairWithin n r.pair) where
   pair_is : (f k : ℕ) → f ≡ r.pair.a → k ≡ r.pair.b → r.pair ≡ pair f k
   pair_is f k e h = λ j. record { a = sym e j; b = sym h j }
 
@@ -173,7 +173,7 @@ all_joined n i rays rows e all = rows_same n (JoinedBelow i rays n) (IsJoinedBit
 
 -- ---- what the rows tell
 
-pub in_joined : (n : ℕ) (c : CertParts) (rows : List Row) → AreJoinedRows n c.rays rows → (f k : ℕ) → f < n → k < n → IsIn rows f k ↔ AreGroupsJoined c f k
+pub in_joined : (n : ℕ) (c : CertParts) (rows : List Row) → AreJoinedRows n c.rays rows → (f k : ℕ) → f < n → k < n → IsInRowOf rows f k ↔ AreGroupsJoined c f k
 in_joined n c rows all f k low low_too = (
   (λ h. joined_told c f k ((all.bits f h.0 h.1 k).0 h.2).1),
   (λ j. (row.0, row.1, (all.bits f row.0 row.1 k).1 (low_too, joined_tells c f k j))),

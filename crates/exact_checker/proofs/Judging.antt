@@ -13,7 +13,7 @@ use Rattle.block_evidence.specs.declared.sight_tree.Node.{Node}
 use Rattle.mesh_shape.specs.declared.half_edges.table.HalfEdge.{HalfEdge}
 use Rattle.mesh_shape.specs.HalfEdges.HalfEdges.{AreHalfEdges}
 use Rattle.cert_checker.specs.declared.tree_judge.roots.Root.{Root}
-use Rattle.cert_checker.specs.TreeJudge.Roots.{AreRoots}
+use Rattle.cert_checker.specs.TreeJudge.Roots.{AreRootChains}
 use Rattle.face_groups.specs.TriSectors.Components.{AreComponents}
 use Rattle.cert_format.specs.declared.cert.Labelled.{Labelled}
 use Rattle.cert_format.specs.Accepted.{triangles_of, labels_of}
@@ -21,12 +21,12 @@ use Rattle.cert_format.specs.Parts.{CertParts}
 use Rattle.certificates.specs.declared.cert_exact.cert.ExactParts.{ExactParts}
 use Rattle.certificates.specs.CertExact.Grammar.{as_two}
 use Rattle.gate_floods.specs.Bits.{is_owned, owned_row, rank_of}
-use Rattle.gate_floods.specs.Exact.{IsClaimed, IsOwned}
+use Rattle.gate_floods.specs.Exact.{IsClaimedBlind, IsOwned}
 use Rattle.gate_floods.proofs.RowBits.{bit_is, bit_low}
 use Rattle.gate_floods.proofs.Owned.{owned_rows_tell}
 use Rattle.gate_floods.specs.RowJudge.Masks.{MaskRows}
-use Rattle.gate_floods.specs.RowJudge.Judged.{tree_of}
-use Rattle.gate_floods.specs.RowJudge.Laws.{AreMasks, IsGround, TellsByRows}
+use Rattle.gate_floods.specs.RowJudge.Judged.{tree_with}
+use Rattle.gate_floods.specs.RowJudge.Laws.{AreHalfEdgeMasks, IsRowGround, TellsByRows}
 use Rattle.gate_floods.specs.RowJudge.Words.{AreBitsOf}
 use Rattle.exact_checker.specs.declared.trees.WrongNode.{WrongNode}
 use Rattle.exact_checker.specs.Owning.{OwningParts, IsOwnedBit, KnowsOwning}
@@ -39,16 +39,16 @@ all_named (x ∷ xs) zero t h = (x.sector, refl)
 all_named (x ∷ xs) (suc k) t h = all_named xs k t h
 
 module _ (p : PlanParts) (is : IsPlan p) (c : ExactParts) (count : p.sectors ≡ length c.groups) (xs : List HalfEdge) (good : IsGoodMesh (map_of p) (triangles_of (as_two c).cert) (labels_of (as_two c).cert)) (are : AreHalfEdges p (triangles_of (as_two c).cert) (labels_of (as_two c).cert) xs)
-    (roots : List Root) (firsts : List (Option ℕ)) (begin : AreRoots (map_of p) (triangles_of (as_two c).cert) xs roots firsts) (ms : MaskRows) (masks : AreMasks (map_of p) (IsClaimed (map_of p) (as_two c).cert) xs ms)
+    (roots : List Root) (firsts : List (Option ℕ)) (begin : AreRootChains (map_of p) (triangles_of (as_two c).cert) xs roots firsts) (ms : MaskRows) (masks : AreHalfEdgeMasks (map_of p) (IsClaimedBlind (map_of p) (as_two c).cert) xs ms)
     (known : OwningParts) (sized : known.count ≡ p.sectors) (components : AreComponents (map_of p) known.components) (knows : KnowsOwning c.rays known) where
   -- the bits of what a group owns
   owned_is : (f k : ℕ) → f < p.sectors → IsOwnedBit c.rays known.components known.count f k ↔ Owns (map_of p) c f k
-  owned_is f k low = subst (λ (n : ℕ). IsOwnedBit c.rays known.components n f k ↔ Owns (map_of p) c f k) (sym sized) (subst (λ (n : ℕ). IsOwnedBit c.rays known.components p.sectors f k ↔ IsOwned (rank_of c.rays n) (IsClaimed (map_of p) (as_two c).cert) f k) count told)
+  owned_is f k low = subst (λ (n : ℕ). IsOwnedBit c.rays known.components n f k ↔ Owns (map_of p) c f k) (sym sized) (subst (λ (n : ℕ). IsOwnedBit c.rays known.components p.sectors f k ↔ IsOwned (rank_of c.rays n) (IsClaimedBlind (map_of p) (as_two c).cert) f k) count told)
     where
-      law : (slice_get (owned_row c.rays known.components (rank_of c.rays p.sectors) p.sectors f) k ≡ Some true) ↔ IsOwned (rank_of c.rays p.sectors) (IsClaimed (map_of p) (as_two c).cert) f k
+      law : (slice_get (owned_row c.rays known.components (rank_of c.rays p.sectors) p.sectors f) k ≡ Some true) ↔ IsOwned (rank_of c.rays p.sectors) (IsClaimedBlind (map_of p) (as_two c).cert) f k
       law = owned_rows_tell (rank_of c.rays p.sectors) (map_of p) (as_two c).cert known.components f components low k
 
-      told : IsOwnedBit c.rays known.components p.sectors f k ↔ IsOwned (rank_of c.rays p.sectors) (IsClaimed (map_of p) (as_two c).cert) f k
+      told : IsOwnedBit c.rays known.components p.sectors f k ↔ IsOwned (rank_of c.rays p.sectors) (IsClaimedBlind (map_of p) (as_two c).cert) f k
       told = (
         (λ h. law.0 (bit_is (is_owned c.rays known.components (rank_of c.rays p.sectors) f) p.sectors k h.0 ∙ ap Some h.1)),
         (λ o. let b = law.1 o in let l = bit_low (is_owned c.rays known.components (rank_of c.rays p.sectors) f) 0 p.sectors k true b in (l, some_is_same _ true (sym (bit_is (is_owned c.rays known.components (rank_of c.rays p.sectors) f) p.sectors k l) ∙ b))),
@@ -57,7 +57,7 @@ module _ (p : PlanParts) (is : IsPlan p) (c : ExactParts) (count : p.sectors ≡
   bits_of : (f : ℕ) (row : List ℕ) → f < p.sectors → AreBitsOf row (IsOwnedBit c.rays known.components known.count f) → AreBitsOf row (Owns (map_of p) c f)
   bits_of f row low bits k = let o = owned_is f k low in ((λ h. o.0 ((bits k).0 h)), (λ h. (bits k).1 (o.1 h)))
 
-  told_for : (f : ℕ) (ns : List Node) (o : Option ℕ) → f < p.sectors → (a : AnswersFor xs ms roots firsts known f ns o) → TellsByRows (map_of p) (triangles_of (as_two c).cert) (labels_of (as_two c).cert) xs ms (IsClaimed (map_of p) (as_two c).cert) (Owns (map_of p) c f) a.row (tree_of f ns) o
+  told_for : (f : ℕ) (ns : List Node) (o : Option ℕ) → f < p.sectors → (a : AnswersFor xs ms roots firsts known f ns o) → TellsByRows (map_of p) (triangles_of (as_two c).cert) (labels_of (as_two c).cert) xs ms (IsClaimedBlind (map_of p) (as_two c).cert) (Owns (map_of p) c f) a.row (tree_with f ns) o
   told_for f ns o low a = a.tells p (triangles_of (as_two c).cert) (labels_of (as_two c).cert) (rank_of c.rays (length c.groups)) (as_two c).cert
       (record { plan = is; good = good; edges = are; named = all_named c.triangles; roots_are = begin; masks = masks; kept = bits_of f a.row low (a.bits c.rays knows) }) low
 
@@ -89,8 +89,8 @@ module _ (p : PlanParts) (is : IsPlan p) (c : ExactParts) (count : p.sectors ≡
 -- what the judge of one tree tells, with the row that it was given
 module _ (xs : List HalfEdge) (ms : MaskRows) (roots : List Root) (firsts : List (Option ℕ)) (known : OwningParts) (f : ℕ) (owned row : List ℕ) (same : row ≡ owned) (bits : (rays : List PairRay) → KnowsOwning rays known → AreBitsOf owned (IsOwnedBit rays known.components known.count f)) where
   pub answers_for : (ns : List Node) (o wrong : Option ℕ) → o ≡ wrong
-      → ((p : PlanParts) (ts : List Triangle) (ls : List (Option ℕ)) (rank : ℕ → ℕ) (cert : CertParts) → IsGround p ts ls xs roots firsts ms (IsClaimed (map_of p) cert) (IsOwned rank (IsClaimed (map_of p) cert) f) row → f < p.sectors
-      → TellsByRows (map_of p) ts ls xs ms (IsClaimed (map_of p) cert) (IsOwned rank (IsClaimed (map_of p) cert) f) row (tree_of f ns) o)
+      → ((p : PlanParts) (ts : List Triangle) (ls : List (Option ℕ)) (rank : ℕ → ℕ) (cert : CertParts) → IsRowGround p ts ls xs roots firsts ms (IsClaimedBlind (map_of p) cert) (IsOwned rank (IsClaimedBlind (map_of p) cert) f) row → f < p.sectors
+      → TellsByRows (map_of p) ts ls xs ms (IsClaimedBlind (map_of p) cert) (IsOwned rank (IsClaimedBlind (map_of p) cert) f) row (tree_with f ns) o)
       → AnswersFor xs ms roots firsts known f ns wrong
   answers_for ns o wrong is tells = subst (AnswersFor xs ms roots firsts known f ns) is (record {
     row = row;

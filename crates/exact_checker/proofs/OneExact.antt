@@ -23,13 +23,13 @@ use Rattle.group_checker.specs.declared.verdict.AnyFault.{AnyFault}
 use Rattle.group_checker.specs.declared.verdict.AnyFault.TheVariants.{Check, Group, Unused}
 use Rattle.group_checker.specs.declared.verdict.AnyVerdict.{AnyVerdict}
 use Rattle.group_checker.specs.declared.verdict.AnyVerdict.TheVariants.{Yes, No}
-use Rattle.group_checker.specs.Judged.{InWordsOfOne, TellsGroups, TellsMesh, TellsPairs as TellsPairsOfTwo}
+use Rattle.group_checker.specs.Judged.{InWordsOfOne, TellsGroups, TellsMesh, TellsPairsOfTwo}
 use Rattle.group_checker.proofs.OneAny.{IsPromised as IsPromisedOfTwo, one_two}
 use Rattle.cert_checker.specs.AcceptedGroups.Accepted.{IsGroupedSeen}
-use Rattle.gate_floods.specs.Exact.{IsClaimed}
-use Rattle.gate_floods.specs.RowJudge.Asked.{IsFirstWrong, pending_roots}
+use Rattle.gate_floods.specs.Exact.{IsClaimedBlind}
+use Rattle.gate_floods.specs.RowJudge.Asked.{IsFirstWrongInRow, pending_roots}
 use Rattle.cert_checker.specs.TreeJudge.Roots.{root_edges}
-use Rattle.exact_checker.specs.Judged.{AreTreesKept, IsFirstTreeWrong, IsPairRight, IsReached, JudgesTrees, TellsPairs}
+use Rattle.exact_checker.specs.Judged.{AreTreesKept, IsFirstTreeWrong, IsPairRight, IsExactPairReached, JudgesTreesOfThree, TellsPairsOfThree}
 use Rattle.gate_floods.proofs.RowJudge.OneRow.{one_first_wrong}
 
 -- ---- trees
@@ -38,9 +38,9 @@ module _ (g : Map) (c : ExactParts) (good : IsGoodMesh g (triangles_of (as_two c
   one_number : (s k j : ℕ) → IsFirstTreeWrong g c s k → IsFirstTreeWrong g c s j → k ≡ j
   one_number s k j f h =
       let same : h.nodes ≡ f.nodes = same_Some h.nodes f.nodes (sym h.is ∙ f.is) in
-      one_first_wrong g (triangles_of (as_two c).cert) (labels_of (as_two c).cert) good (IsClaimed g (as_two c).cert) f.plan h.plan f.of_map h.of_map f.edges h.edges f.are_edges h.are_edges f.masks h.masks f.are_masks h.are_masks
+      one_first_wrong g (triangles_of (as_two c).cert) (labels_of (as_two c).cert) good (IsClaimedBlind g (as_two c).cert) f.plan h.plan f.of_map h.of_map f.edges h.edges f.are_edges h.are_edges f.masks h.masks f.are_masks h.are_masks
       s f.nodes f.row h.row k j (λ n. ((λ e. (h.kept n).1 ((f.kept n).0 e)), (λ e. (f.kept n).1 ((h.kept n).0 e)))) f.node
-      (subst (λ (ns : List Node). IsFirstWrong h.edges h.masks s (pending_roots h.masks h.row (root_edges (triangles_of (as_two c).cert) h.edges g s)) ns j) same h.node)
+      (subst (λ (ns : List Node). IsFirstWrongInRow h.edges h.masks s (pending_roots h.masks h.row (root_edges (triangles_of (as_two c).cert) h.edges g s)) ns j) same h.node)
 
   -- the first tree that doesn't keep is one, and so is its first wrong node
   one_wrong_tree : (s k u j : ℕ) → IsFirstTreeWrong g c s k → IsFirstTreeWrong g c u j → (s ≡ u) × (k ≡ j)
@@ -56,7 +56,7 @@ module _ (g : Map) (c : ExactParts) (good : IsGoodMesh g (triangles_of (as_two c
 module _ (t : TableParts) (c : CertTwo) where
   -- the pair isn't right, and all before it are
   record IsWrongAt (a b : ℕ) : Type 0 where
-    reached : IsReached t c a b
+    reached : IsExactPairReached t c a b
     wrong : ¬ IsPairRight t c a b
 
   one_wrong_pair : (a b d e : ℕ) → IsWrongAt a b → IsWrongAt d e → (a ≡ d) × (b ≡ e)
@@ -72,13 +72,13 @@ module _ (t : TableParts) (c : CertTwo) where
           second (inr (inl r)) = r
           second (inr (inr l)) = absurd (h.wrong (subst (λ (n : ℕ). IsPairRight t c n e) q (f.reached.row e (let o = h.reached.order in omega (arith, o, q)) l)))
 
-  unproved_wrong : (a b : ℕ) → TellsPairs t c (NoOne (Unproved a b)) → IsWrongAt a b
+  unproved_wrong : (a b : ℕ) → TellsPairsOfThree t c (NoOne (Unproved a b)) → IsWrongAt a b
   unproved_wrong a b h = record { reached = h.0; wrong = λ r. r.set h.1 h.2 }
 
-  uncovered_wrong : (a b : ℕ) → TellsPairs t c (NoOne (Uncovered a b)) → IsWrongAt a b
+  uncovered_wrong : (a b : ℕ) → TellsPairsOfThree t c (NoOne (Uncovered a b)) → IsWrongAt a b
   uncovered_wrong a b h = record { reached = h.0; wrong = λ r. h.2 (r.clear h.1) }
 
-  wrong_with_right : (a b : ℕ) (totals : Totals) → IsWrongAt a b → TellsPairs t c (YesOne totals) → ⊥
+  wrong_with_right : (a b : ℕ) (totals : Totals) → IsWrongAt a b → TellsPairsOfThree t c (YesOne totals) → ⊥
   wrong_with_right a b totals w h = w.wrong (h.0 a b w.reached.order w.reached.within)
 
 -- ---- one answer
@@ -137,8 +137,8 @@ module _ (m g : Map) (t : TableParts) (c : ExactParts) where
     pub mesh : TellsMesh m g (as_two c) v
     pub groups : TellsGroups m (as_two c) v
     pub rays : InWordsOfOne (JudgesRays g (as_two c).cert) v
-    pub trees : InWordsOfOne (JudgesTrees g c) v
-    pub pairs : InWordsOfOne (TellsPairs t (as_two c)) v
+    pub trees : InWordsOfOne (JudgesTreesOfThree g c) v
+    pub pairs : InWordsOfOne (TellsPairsOfThree t (as_two c)) v
 
   nothing : TellsPairsOfTwo g no_table (treeless c) (YesOne none)
   nothing = ((λ a b l k. absurd (omega (arith, k))), record { set = refl; listed = refl; all = refl })
@@ -176,7 +176,7 @@ module _ (m g : Map) (t : TableParts) (c : ExactParts) where
   late_yes x (Yes y) l p q = ap Yes (one_totals t [] t.n x y p.pairs.1 q.pairs.1)
   late_yes x w l p q = absurd l
 
-  seen_with_not : (a b d e : ℕ) → TellsPairs t (as_two c) (NoOne (Unproved a b)) → TellsPairs t (as_two c) (NoOne (Uncovered d e)) → ⊥
+  seen_with_not : (a b d e : ℕ) → TellsPairsOfThree t (as_two c) (NoOne (Unproved a b)) → TellsPairsOfThree t (as_two c) (NoOne (Uncovered d e)) → ⊥
   seen_with_not a b d e p q =
       let o = one_wrong_pair t (as_two c) a b d e (unproved_wrong t (as_two c) a b p) (uncovered_wrong t (as_two c) d e q) in
       q.2 (subst (λ (n : ℕ). IsGroupedSeen (as_two c) d n) o.1 (subst (λ (n : ℕ). IsGroupedSeen (as_two c) n b) o.0 p.2))
@@ -227,7 +227,7 @@ module _ (m : Map) (c : CertTwo) (t u : TableParts) (same : HaveOneBits m t u) w
     clear = λ s. r.clear (clear_back m t u same a b (low m t u same a b l h) (in_map m t u same b h) s);
   }
 
-  reached_same : (a b : ℕ) → IsReached t c a b → IsReached u c a b
+  reached_same : (a b : ℕ) → IsExactPairReached t c a b → IsExactPairReached u c a b
   reached_same a b r = record {
     order = r.order;
     within = in_other m t u same b r.within;
@@ -235,7 +235,7 @@ module _ (m : Map) (c : CertTwo) (t u : TableParts) (same : HaveOneBits m t u) w
     rows = λ d e l h k. right_same d e h (in_first m t u same e k) (r.rows d e l h (in_first m t u same e k));
   }
 
-  pairs_told : (v : Verdict) → TellsPairs t c v → TellsPairs u c v
+  pairs_told : (v : Verdict) → TellsPairsOfThree t c v → TellsPairsOfThree u c v
   pairs_told (YesOne totals) h = (
     (λ a b l k. right_same a b l (in_first m t u same b k) (h.0 a b l (in_first m t u same b k))),
     totals_same m t u same [] totals h.1,
@@ -248,7 +248,7 @@ module _ (m : Map) (c : CertTwo) (t u : TableParts) (same : HaveOneBits m t u) w
   pairs_told (NoOne (Uncovered a b)) h = (reached_same a b h.0, clear_same m t u same a b (low m t u same a b h.0.order h.0.within) (in_map m t u same b h.0.within) h.1, h.2)
 
   -- the same is promised of both
-  pub told_same : (v : AnyVerdict) → InWordsOfOne (TellsPairs t c) v → InWordsOfOne (TellsPairs u c) v
+  pub told_same : (v : AnyVerdict) → InWordsOfOne (TellsPairsOfThree t c) v → InWordsOfOne (TellsPairsOfThree u c) v
   told_same (Yes totals) h = pairs_told (YesOne totals) h
   told_same (No (Check f)) h = pairs_told (NoOne f) h
   told_same (No (Group k)) h = h

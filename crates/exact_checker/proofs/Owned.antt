@@ -18,10 +18,10 @@ use Rattle.math_base.proofs.Numbers.{same_or_not, tells_same, tells_other, is_to
 use Rattle.gate_floods.specs.Bits.{bits_from, count_bits, is_joined, rank_of, ranks_before}
 use Rattle.gate_floods.specs.declared.gate_masks.masks.Row.{Row}
 use Rattle.gate_floods.specs.GateMasks.Words.{HasBit, AreBitsOf}
-use Rattle.gate_floods.specs.GateMasks.Masks.{IsIn}
+use Rattle.gate_floods.specs.GateMasks.Masks.{IsInRowOf}
 use Rattle.gate_floods.specs.RowJudge.Words.{is_in}
 use Rattle.exact_checker.specs.Rows.{AreJoinedRows}
-use Rattle.exact_checker.specs.Owning.{rank_at, AreRanks, IsBehind, IsOwnedBit, KnowsOwning, OwningParts, RanksFrom}
+use Rattle.exact_checker.specs.Owning.{rank_at, AreRanks, RanksBehind, IsOwnedBit, KnowsOwning, OwningParts, RanksFrom}
 
 -- ---- counting
 
@@ -138,10 +138,10 @@ module _ (n : ℕ) (rays : List PairRay) (rows : List Row) (all : AreJoinedRows 
   joined_bit : (f : ℕ) (r : Row) → slice_get rows f ≡ Some r → (k : ℕ) → k < n → is_in r.words.items k ≡ is_joined rays f k
   joined_bit f r at k lt = both_ways (is_in r.words.items k) (is_joined rays f k) (λ h. ((all.bits f r at k).0 (of_is_in r.words.items k h)).1) (λ h. is_in_of r.words.items k ((all.bits f r at k).1 (lt, h)))
 
-  joined_told : (f k : ℕ) → IsIn rows f k → is_joined rays f k ≡ true
+  joined_told : (f k : ℕ) → IsInRowOf rows f k → is_joined rays f k ≡ true
   joined_told f k w = ((all.bits f w.0 w.1 k).0 w.2).1
 
-  joined_tells : (f k : ℕ) → f < n → k < n → is_joined rays f k ≡ true → IsIn rows f k
+  joined_tells : (f k : ℕ) → f < n → k < n → is_joined rays f k ≡ true → IsInRowOf rows f k
   joined_tells f k low low_too h = (row.0, row.1, (all.bits f row.0 row.1 k).1 (low_too, h))
     where
       row : (r : Row) × (slice_get rows f ≡ Some r)
@@ -221,8 +221,8 @@ module _ (known : OwningParts) (f first end middle rank component low high both 
   not_less : (x y : ℕ) → x ≤ y → (x < y) ⊎ (x ≡ y)
   not_less x y l = elim (same_or_not x y) as (λ _. (x < y) ⊎ (x ≡ y)) [ inl e ↦ inr e | inr n ↦ inl (omega (arith, l, n)) ]
 
-  to : (i : ℕ) → bit_at both i ≡ 1 → IsBehind known f (first + i)
-  to i h = elim (either_bit (bit_at low i) (bit_at high i) (bit_at-lt low i) (bit_at-lt high i) (sym (bit_of_both i) ∙ h)) as (λ _. IsBehind known f (first + i)) [
+  to : (i : ℕ) → bit_at both i ≡ 1 → RanksBehind known f (first + i)
+  to i h = elim (either_bit (bit_at low i) (bit_at high i) (bit_at-lt low i) (bit_at-lt high i) (sym (bit_of_both i) ∙ h)) as (λ _. RanksBehind known f (first + i)) [
     | inl b ↦ (let w = (smaller i).0 b in let l : first + i < middle = w.1 in let r : rank + 1 ≤ rank_at known.ranks (first + i) = w.2.1 in
         (omega (arith, l, is_middle, is_end), w.2.0 ∙ is_component, before (first + i) (inl (omega (arith, r, is_rank)))))
     | inr b ↦ (let w = (greater i).0 b in let m : middle ≤ first + i = w.0 in let l : first + i < end = w.1 in let r : rank ≤ rank_at known.ranks (first + i) = w.2.1 in (
@@ -235,7 +235,7 @@ module _ (known : OwningParts) (f first end middle rank component low high both 
     ))
   ]
 
-  back : (i : ℕ) → i < 64 → IsBehind known f (first + i) → bit_at both i ≡ 1
+  back : (i : ℕ) → i < 64 → RanksBehind known f (first + i) → bit_at both i ≡ 1
   back i small (low_k, same, h) = in_either i (elim (below_or_not (first + i) middle) as (λ _. (bit_at low i ≡ 1) ⊎ (bit_at high i ≡ 1)) [
     | inl l ↦ inl ((smaller i).1 (omega arith, l, (same ∙ sym is_component, less l (is_before (first + i) h))))
     | inr m ↦ inr ((greater i).1 (m, omega (arith, small, low_k, is_end), (same ∙ sym is_component, most (is_before (first + i) h))))
@@ -249,12 +249,12 @@ module _ (known : OwningParts) (f first end middle rank component low high both 
       most (inl s) = omega (arith, s, is_rank)
       most (inr (e, s)) = omega (arith, e, is_rank)
 
-  pub behind_is : (i : ℕ) → i < 64 → (bit_at both i ≡ 1) ↔ IsBehind known f (first + i)
+  pub behind_is : (i : ℕ) → i < 64 → (bit_at both i ≡ 1) ↔ RanksBehind known f (first + i)
   behind_is i small = ((λ h. to i h), (λ h. back i small h))
 
 -- a word of the groups that rank behind, without those of the row of what is joined
-module _ (rays : List PairRay) (known : OwningParts) (are : KnowsOwning rays known) (f place : ℕ) (within : f < known.count) (behind : ℕ) (is_behind : (i : ℕ) → i < 64 → (bit_at behind i ≡ 1) ↔ IsBehind known f (64 * place + i))
-    (row : List ℕ) (is_row : (c : ℕ) → HasBit row c ↔ IsIn known.joined f c) (joined : ℕ) (is_joined_word : joined ≡ slice_index row place) (small : joined < 2 ^ 64) where
+module _ (rays : List PairRay) (known : OwningParts) (are : KnowsOwning rays known) (f place : ℕ) (within : f < known.count) (behind : ℕ) (is_behind : (i : ℕ) → i < 64 → (bit_at behind i ≡ 1) ↔ RanksBehind known f (64 * place + i))
+    (row : List ℕ) (is_row : (c : ℕ) → HasBit row c ↔ IsInRowOf known.joined f c) (joined : ℕ) (is_joined_word : joined ≡ slice_index row place) (small : joined < 2 ^ 64) where
   in_word : (i : ℕ) → i < 64 → bit_at (slice_index row ((64 * place + i) / 64)) ((64 * place + i) % 64) ≡ bit_at joined i
   in_word i l = let p = place_of place i l in (λ j. bit_at (slice_index row (p.0 j)) (p.1 j)) ∙ ap (λ (x : ℕ). bit_at x i) (sym is_joined_word)
 

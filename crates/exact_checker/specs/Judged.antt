@@ -23,15 +23,15 @@ use Rattle.cert_checker.specs.AcceptedGroups.Accepted.{IsGroupedSeen}
 use Rattle.group_checker.specs.declared.verdict.AnyVerdict.{AnyVerdict}
 use Rattle.group_checker.specs.Meshes.{grouped_map}
 use Rattle.group_checker.specs.Members.{AreMembers}
-use Rattle.group_checker.specs.Judged.{InWordsOfOne, IsTwoFor, IsTwoOf, TellsGroups, TellsMesh}
+use Rattle.group_checker.specs.Judged.{InWordsOfOne, IsTwoFor, IsTwoOfSectors, TellsGroups, TellsMesh}
 use Rattle.gate_floods.specs.Bits.{rank_of}
-use Rattle.gate_floods.specs.Exact.{IsClaimed, IsOwned}
+use Rattle.gate_floods.specs.Exact.{IsClaimedBlind, IsOwned}
 use Rattle.gate_floods.specs.Rows.{KeepsByRows}
 use Rattle.gate_floods.specs.declared.gate_masks.masks.Row.{Row}
 use Rattle.gate_floods.specs.RowJudge.Masks.{MaskRows}
-use Rattle.gate_floods.specs.RowJudge.Asked.{pending_roots, IsFirstWrong}
-use Rattle.gate_floods.specs.RowJudge.Judged.{tree_of}
-use Rattle.gate_floods.specs.RowJudge.Laws.{AreMasks, IsGround, TellsByRows}
+use Rattle.gate_floods.specs.RowJudge.Asked.{pending_roots, IsFirstWrongInRow}
+use Rattle.gate_floods.specs.RowJudge.Judged.{tree_with}
+use Rattle.gate_floods.specs.RowJudge.Laws.{AreHalfEdgeMasks, IsRowGround, TellsByRows}
 use Rattle.gate_floods.specs.RowJudge.Words.{AreBitsOf}
 use Rattle.certificates.specs.declared.cert_exact.cert.ExactParts.{ExactParts}
 use Rattle.certificates.specs.CertExact.Grammar.{as_two}
@@ -49,18 +49,18 @@ pub record IsThreeFor (p : PlanParts) (c : ExactParts) : Type 0 where
 
 -- the same, for a map of so many sectors
 pub record IsThreeOf (n : ℕ) (c : ExactParts) : Type 0 where
-  pub two : IsTwoOf n (as_two c)
+  pub two : IsTwoOfSectors n (as_two c)
   pub one_each : length c.trees ≡ length c.groups
 
 -- ---- trees
 
 -- of the groups those whose claims one owns
 abbrev pub Owns : Map → ExactParts → ℕ → ℕ → Type 0
-Owns g c f = IsOwned (rank_of c.rays (length c.groups)) (IsClaimed g (as_two c).cert) f
+Owns g c f = IsOwned (rank_of c.rays (length c.groups)) (IsClaimedBlind g (as_two c).cert) f
 
 -- the tree keeps from all that its group owns
 abbrev pub KeepsItsOwn : Map → ExactParts → ℕ → List Node → Type 0
-KeepsItsOwn g c f ns = KeepsByRows g (triangles_of (as_two c).cert) (labels_of (as_two c).cert) (IsClaimed g (as_two c).cert) (Owns g c f) (tree_of f ns)
+KeepsItsOwn g c f ns = KeepsByRows g (triangles_of (as_two c).cert) (labels_of (as_two c).cert) (IsClaimedBlind g (as_two c).cert) (Owns g c f) (tree_with f ns)
 
 abbrev pub AreTreesKept : Map → ExactParts → Type 0
 AreTreesKept g c = (f : ℕ) (ns : List Node) → slice_get c.trees f ≡ Some ns → KeepsItsOwn g c f ns
@@ -77,10 +77,10 @@ pub record IsFirstTreeWrong (g : Map) (c : ExactParts) (source k : ℕ) : Type 0
   pub edges : List HalfEdge
   pub are_edges : AreHalfEdges plan (triangles_of (as_two c).cert) (labels_of (as_two c).cert) edges
   pub masks : MaskRows
-  pub are_masks : AreMasks g (IsClaimed g (as_two c).cert) edges masks
+  pub are_masks : AreHalfEdgeMasks g (IsClaimedBlind g (as_two c).cert) edges masks
   pub row : List ℕ
   pub kept : AreBitsOf row (Owns g c source)
-  pub node : IsFirstWrong edges masks source (pending_roots masks row (root_edges (triangles_of (as_two c).cert) edges g source)) nodes k
+  pub node : IsFirstWrongInRow edges masks source (pending_roots masks row (root_edges (triangles_of (as_two c).cert) edges g source)) nodes k
 
 -- all trees keep, or the first that doesn't is told, with its first wrong node
 abbrev pub TellsTrees : Map → ExactParts → Option WrongNode → Type 0
@@ -88,11 +88,11 @@ TellsTrees g c None = AreTreesKept g c
 TellsTrees g c (Some w) = IsFirstTreeWrong g c w.source w.node
 
 -- a fault of a tree is that of the first one that doesn't keep; with yes, and with a fault of a pair, each does
-abbrev pub JudgesTrees : Map → ExactParts → Verdict → Type 0
-JudgesTrees g c (No (Mesh f)) = Unit {0}
-JudgesTrees g c (No (Ray a b f)) = Unit {0}
-JudgesTrees g c (No (OfTree s n)) = IsFirstTreeWrong g c s n
-JudgesTrees g c _ = AreTreesKept g c
+abbrev pub JudgesTreesOfThree : Map → ExactParts → Verdict → Type 0
+JudgesTreesOfThree g c (No (Mesh f)) = Unit {0}
+JudgesTreesOfThree g c (No (Ray a b f)) = Unit {0}
+JudgesTreesOfThree g c (No (OfTree s n)) = IsFirstTreeWrong g c s n
+JudgesTreesOfThree g c _ = AreTreesKept g c
 
 -- plan, triangles, half-edges, rows and trees are those of the certificate, and its triangles are a good mesh of its map of groups
 pub record AreTreesOf (c : ExactParts) (p : PlanParts) (ts : List Triangle) (xs : List HalfEdge) (rows : List Row) (trees : List (List Node)) : Type 0 where
@@ -109,8 +109,8 @@ module _ (xs : List HalfEdge) (ms : MaskRows) (roots : List Root) (firsts : List
   pub record AnswersFor (f : ℕ) (ns : List Node) (wrong : Option ℕ) : Type 0 where
     pub row : List ℕ
     pub bits : (rays : List PairRay) → KnowsOwning rays known → AreBitsOf row (IsOwnedBit rays known.components known.count f)
-    pub tells : (p : PlanParts) (ts : List Triangle) (ls : List (Option ℕ)) (rank : ℕ → ℕ) (cert : CertParts) → IsGround p ts ls xs roots firsts ms (IsClaimed (map_of p) cert) (IsOwned rank (IsClaimed (map_of p) cert) f) row → f < p.sectors
-        → TellsByRows (map_of p) ts ls xs ms (IsClaimed (map_of p) cert) (IsOwned rank (IsClaimed (map_of p) cert) f) row (tree_of f ns) wrong
+    pub tells : (p : PlanParts) (ts : List Triangle) (ls : List (Option ℕ)) (rank : ℕ → ℕ) (cert : CertParts) → IsRowGround p ts ls xs roots firsts ms (IsClaimedBlind (map_of p) cert) (IsOwned rank (IsClaimedBlind (map_of p) cert) f) row → f < p.sectors
+        → TellsByRows (map_of p) ts ls xs ms (IsClaimedBlind (map_of p) cert) (IsOwned rank (IsClaimedBlind (map_of p) cert) f) row (tree_with f ns) wrong
 
   -- all nodes of the trees answer; or the first tree with a node that doesn't, or that is missing, is told, with its first such node
   abbrev pub AnswersForEach : List (List Node) → Option WrongNode → Type 0
@@ -131,19 +131,19 @@ pub record IsPairRight (t : TableParts) (c : CertTwo) (a b : ℕ) : Type 0 where
   pub clear : EitherClear t.n t.bytes a b → IsGroupedSeen c a b
 
 -- it is a pair of the table, and all pairs before it are right
-pub record IsReached (t : TableParts) (c : CertTwo) (a b : ℕ) : Type 0 where
+pub record IsExactPairReached (t : TableParts) (c : CertTwo) (a b : ℕ) : Type 0 where
   pub order : a ≤ b
   pub within : b < t.n
   pub row : (e : ℕ) → a ≤ e → e < b → IsPairRight t c a e
   pub rows : (d e : ℕ) → d < a → d ≤ e → e < t.n → IsPairRight t c d e
 
 -- with yes each pair is right, and the totals are those of the table; a fault of a pair is one, and the first, and none is of the list
-abbrev pub TellsPairs : TableParts → CertTwo → Verdict → Type 0
-TellsPairs t c (Yes totals) = ((a b : ℕ) → a ≤ b → b < t.n → IsPairRight t c a b) × AreTotals t [] t.n totals
-TellsPairs t c (No (Unproved a b)) = IsReached t c a b × EitherSet t.n t.bytes a b × IsGroupedSeen c a b
-TellsPairs t c (No (Uncovered a b)) = IsReached t c a b × EitherClear t.n t.bytes a b × ¬ IsGroupedSeen c a b
-TellsPairs t c (No (ListedSet a b)) = ⊥
-TellsPairs t c _ = Unit {0}
+abbrev pub TellsPairsOfThree : TableParts → CertTwo → Verdict → Type 0
+TellsPairsOfThree t c (Yes totals) = ((a b : ℕ) → a ≤ b → b < t.n → IsPairRight t c a b) × AreTotals t [] t.n totals
+TellsPairsOfThree t c (No (Unproved a b)) = IsExactPairReached t c a b × EitherSet t.n t.bytes a b × IsGroupedSeen c a b
+TellsPairsOfThree t c (No (Uncovered a b)) = IsExactPairReached t c a b × EitherClear t.n t.bytes a b × ¬ IsGroupedSeen c a b
+TellsPairsOfThree t c (No (ListedSet a b)) = ⊥
+TellsPairsOfThree t c _ = Unit {0}
 
 -- ---- the whole
 
@@ -153,5 +153,5 @@ pub record JudgesThree (p : PlanParts) (t : TableParts) (c : ExactParts) (v : An
   pub mesh : TellsMesh (map_of p) (grouped_map p (as_two c)) (as_two c) v
   pub groups : TellsGroups (map_of p) (as_two c) v
   pub rays : InWordsOfOne (JudgesRays (grouped_map p (as_two c)) (as_two c).cert) v
-  pub trees : InWordsOfOne (JudgesTrees (grouped_map p (as_two c)) c) v
-  pub pairs : InWordsOfOne (TellsPairs t (as_two c)) v
+  pub trees : InWordsOfOne (JudgesTreesOfThree (grouped_map p (as_two c)) c) v
+  pub pairs : InWordsOfOne (TellsPairsOfThree t (as_two c)) v

@@ -45,5 +45,5 @@ abbrev pub RanksFrom : OwningParts → ℕ → ℕ → ℕ → Type 0
 RanksFrom known component least k = (get_or known.components k 0 ≡ component) × (least ≤ rank_at known.ranks k)
 
 -- the group ranks behind the other in its component
-abbrev pub IsBehind : OwningParts → ℕ → ℕ → Type 0
-IsBehind known f k = (k < known.count) × (get_or known.components k 0 ≡ get_or known.components f 0) × (ranks_before (rank_at known.ranks) f k ≡ true)
+abbrev pub RanksBehind : OwningParts → ℕ → ℕ → Type 0
+RanksBehind known f k = (k < known.count) × (get_or known.components k 0 ≡ get_or known.components f 0) × (ranks_before (rank_at known.ranks) f k ≡ true)

@@ -6,7 +6,7 @@ use Rattle.reject_bits.specs.Parts.{TableParts}
 use Rattle.cert_format.specs.Accepted.{EitherSet, EitherClear}
 use Rattle.cert_checker.specs.Pairs.{AreSectorsJoined}
 use Rattle.gate_floods.specs.declared.gate_masks.masks.Row.{Row}
-use Rattle.gate_floods.specs.GateMasks.Masks.{IsIn}
+use Rattle.gate_floods.specs.GateMasks.Masks.{IsInRowOf}
 use Rattle.exact_checker.specs.declared.pairs.Known.{Known}
 
 -- the table, the groups of each sector, and the rows of what is joined with each group
@@ -21,23 +21,23 @@ known_of k = record { table = k.table.now; members = k.members.now; joined = k.j
 -- ---- sectors
 
 module _ (k : KnownParts) where
-  abbrev pub IsSet : ℕ → ℕ → Type 0
-  IsSet a b = EitherSet k.table.n k.table.bytes a b
+  abbrev pub IsExactPairSet : ℕ → ℕ → Type 0
+  IsExactPairSet a b = EitherSet k.table.n k.table.bytes a b
 
-  abbrev pub IsClear : ℕ → ℕ → Type 0
-  IsClear a b = EitherClear k.table.n k.table.bytes a b
+  abbrev pub IsExactPairClear : ℕ → ℕ → Type 0
+  IsExactPairClear a b = EitherClear k.table.n k.table.bytes a b
 
   -- some group of the one sector is joined with one of the other
-  abbrev pub AreJoined : ℕ → ℕ → Type 0
-  AreJoined a b = AreSectorsJoined (IsIn k.joined) k.members a b
+  abbrev pub IsPairJoined : ℕ → ℕ → Type 0
+  IsPairJoined a b = AreSectorsJoined (IsInRowOf k.joined) k.members a b
 
   -- a set bit is of two that aren't joined, a clear one of two that are
   pub record IsFine (a b : ℕ) : Type 0 where
-    pub set : IsSet a b → ¬ AreJoined a b
-    pub clear : IsClear a b → AreJoined a b
+    pub set : IsExactPairSet a b → ¬ IsPairJoined a b
+    pub clear : IsExactPairClear a b → IsPairJoined a b
 
   -- which of the two rules the pair breaks
   abbrev pub IsFaultAt : ℕ → ℕ → CheckFault → Type 0
-  IsFaultAt a b (Unproved c d) = (c ≡ a) × (d ≡ b) × IsSet a b × AreJoined a b
-  IsFaultAt a b (Uncovered c d) = (c ≡ a) × (d ≡ b) × IsClear a b × ¬ AreJoined a b
+  IsFaultAt a b (Unproved c d) = (c ≡ a) × (d ≡ b) × IsExactPairSet a b × IsPairJoined a b
+  IsFaultAt a b (Uncovered c d) = (c ≡ a) × (d ≡ b) × IsExactPairClear a b × ¬ IsPairJoined a b
   IsFaultAt a b _ = ⊥

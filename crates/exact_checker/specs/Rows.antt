@@ -21,14 +21,14 @@ AreJoinedRows n rays rows = AreRowsOf n (IsJoinedBit rays n) rows
 -- ---- rows as they are made
 
 -- the row has room for n numbers, and this one alone
-pub record IsOwnRow (n f : ℕ) (r : Row) : Type 0 where
+pub record IsRowOfOne (n f : ℕ) (r : Row) : Type 0 where
   pub room : n ≤ 64 * length r.words.items
   pub bits : AreBitsOf r.words.items (λ k. k ≡ f)
 
 -- the first m rows, each of which has its own number alone
 pub record AreOwnRows (n m : ℕ) (rows : List Row) : Type 0 where
   pub len : length rows ≡ m
-  pub each : (f : ℕ) (r : Row) → slice_get rows f ≡ Some r → IsOwnRow n f r
+  pub each : (f : ℕ) (r : Row) → slice_get rows f ≡ Some r → IsRowOfOne n f r
 
 -- the second row has the number too, and else what the first has
 pub record AddsBit (k : ℕ) (old new : Row) : Type 0 where

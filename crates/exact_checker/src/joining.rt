@@ -2,11 +2,11 @@
 
 ghost use Rattle.std.specs.Prelude.{◌≡◌, ◌*◌, ◌<◌, ◌↔◌, ℕ, Some, IfOk, IsTrue, length, slice_get};
 ghost use Rattle.sight_names.specs.declared.names.PairRay.{PairRay as RayOf};
-ghost use Rattle.cert_checker.specs.Pairs.{IsWithin};
+ghost use Rattle.cert_checker.specs.Pairs.{IsPairWithin};
 ghost use Rattle.gate_floods.specs.declared.gate_masks.masks.Row.{Row as RowOf};
 ghost use Rattle.gate_floods.specs.GateMasks.Words.{HasBit};
-ghost use Rattle.gate_floods.specs.GateMasks.Masks.{IsIn};
-ghost use Rattle.exact_checker.specs.Rows.{AddsAt, AddsBit, AreJoinedRows, AreOwnRows, IsOwnRow};
+ghost use Rattle.gate_floods.specs.GateMasks.Masks.{IsInRowOf};
+ghost use Rattle.exact_checker.specs.Rows.{AddsAt, AddsBit, AreJoinedRows, AreOwnRows, IsRowOfOne};
 
 use gate_floods::gate_masks::Row;
 use gate_floods::gate_masks::words::{has_bit, no_bits, set_bit};
@@ -16,7 +16,7 @@ use std::alloc::Global;
 /// A row with room for so many groups, which has this one alone.
 fn own_row(alloc: Global, count: u16, group: u16) -> Result<Row, Memory>
     requires { group < count }
-    ensures { IfOk result (IsOwnRow count group) }
+    ensures { IfOk result (IsRowOfOne count group) }
 {
     let mut words = no_bits(alloc, count)?;
     set_bit(words.as_mut_slice(), group);
@@ -55,7 +55,7 @@ fn add_at(rows: &mut [Row], place: u16, number: u16)
 /// Adds to the row of each group those that the rays join with it, where each row has that group alone.
 fn join_all(rows: &mut [Row], rays: &[PairRay])
     requires own { AreOwnRows (length rows.old) (length rows.old) rows.old }
-    requires within { (i : ℕ) (r : RayOf) → slice_get rays.now i ≡ Some r → IsWithin (length rows.old) r.pair }
+    requires within { (i : ℕ) (r : RayOf) → slice_get rays.now i ≡ Some r → IsPairWithin (length rows.old) r.pair }
     ensures { AreJoinedRows (length rows.old) rays.now rows.new }
 {
     for one in rays {
@@ -66,7 +66,7 @@ fn join_all(rows: &mut [Row], rays: &[PairRay])
 
 /// For each of so many groups the row of those that the rays join with it.
 pub fn joined_rows(alloc: Global, count: u16, rays: &[PairRay]) -> Result<Vec<Row>, Memory>
-    requires { (i : ℕ) (r : RayOf) → slice_get rays.now i ≡ Some r → IsWithin count r.pair }
+    requires { (i : ℕ) (r : RayOf) → slice_get rays.now i ≡ Some r → IsPairWithin count r.pair }
     ensures { IfOk result (λ v. AreJoinedRows count rays.now v.items) }
 {
     let mut rows = own_rows(alloc, count)?;
@@ -76,7 +76,7 @@ pub fn joined_rows(alloc: Global, count: u16, rays: &[PairRay]) -> Result<Vec<Ro
 
 /// The words of the group's row, none where there is none.
 pub fn words_of(joined: &[Row], group: u16) -> &[u64]
-    ensures { (c : ℕ) → HasBit result.now c ↔ IsIn joined.now group c }
+    ensures { (c : ℕ) → HasBit result.now c ↔ IsInRowOf joined.now group c }
 {
     match joined.get(group as usize) {
         Some(row) => row.words.as_slice(),
@@ -86,7 +86,7 @@ pub fn words_of(joined: &[Row], group: u16) -> &[u64]
 
 /// Whether the other group is in the row of the one.
 pub fn is_in(joined: &[Row], one: u16, other: u16) -> bool
-    ensures { IsTrue result ↔ IsIn joined.now one other }
+    ensures { IsTrue result ↔ IsInRowOf joined.now one other }
 {
     has_bit(words_of(joined, one), other)
 }

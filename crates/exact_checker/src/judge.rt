@@ -13,7 +13,7 @@ ghost use Rattle.group_checker.specs.Judged.{IsYesAny};
 ghost use Rattle.gate_floods.specs.Exact.{IsAcceptedThree, TellsAll};
 ghost use Rattle.exact_checker.specs.Rows.{AreJoinedRows};
 ghost use Rattle.exact_checker.specs.Pairs.{known_of};
-ghost use Rattle.exact_checker.specs.Judged.{IsAbout, IsThreeFor, IsThreeOf, JudgesThree, JudgesTrees, TellsPairs};
+ghost use Rattle.exact_checker.specs.Judged.{IsAbout, IsThreeFor, IsThreeOf, JudgesThree, JudgesTreesOfThree, TellsPairsOfThree};
 
 use crate::joining::joined_rows;
 use crate::pairs::Known;
@@ -33,7 +33,7 @@ use std::alloc::Global;
 fn judge_each_pair(alloc: Global, known: Known<'_>) -> Result<Verdict, Memory>
     requires { length known.members.now ≡ known.table.now.n }
     ensures kind { IfOk result IsPairVerdict }
-    ensures pairs { (c : PartsOf) → IsAbout c (known_of known.entry) → IfOk result (TellsPairs known.entry.table.now (as_two c)) }
+    ensures pairs { (c : PartsOf) → IsAbout c (known_of known.entry) → IfOk result (TellsPairsOfThree known.entry.table.now (as_two c)) }
 {
     let judged = judge_pairs(alloc, &known, known.table, &[])?;
     match judged {
@@ -51,7 +51,7 @@ pub fn judge_sectors(
 ) -> Result<Verdict, Memory>
     requires few { length groups.now ≤ MOST_TRIANGLES }
     ensures kind { IfOk result IsPairVerdict }
-    ensures pairs { (c : PartsOf) → c.groups ≡ groups.now → AreJoinedRows (length c.groups) c.rays joined.now → IfOk result (TellsPairs table.now (as_two c)) }
+    ensures pairs { (c : PartsOf) → c.groups ≡ groups.now → AreJoinedRows (length c.groups) c.rays joined.now → IfOk result (TellsPairsOfThree table.now (as_two c)) }
 {
     let sectors = table.sectors();
     let members = members_of(alloc, groups, sectors)?;
@@ -80,8 +80,8 @@ fn judge_grouped<J: TreeJudges>(
     requires good { IsGoodMesh (map_of over.now.plan) over.now.mesh.triangles (labels_of (as_two exact.now).cert) }
     ensures later { IfOk result IsLaterVerdict }
     ensures rays { IfOk result (JudgesRays (map_of over.now.plan) (as_two exact.now).cert) }
-    ensures trees { IfOk result (JudgesTrees (map_of over.now.plan) exact.now) }
-    ensures pairs { IfOk result (TellsPairs table.now (as_two exact.now)) }
+    ensures trees { IfOk result (JudgesTreesOfThree (map_of over.now.plan) exact.now) }
+    ensures pairs { IfOk result (TellsPairsOfThree table.now (as_two exact.now)) }
 {
     let edges = HalfEdges::of(alloc, &over.plan, &over.mesh, &over.labels)?;
     let rays = exact.rays.as_slice();

@@ -4,7 +4,7 @@ ghost use Rattle.std.specs.Prelude.{◌≡◌, ◌+◌, ◌*◌, ◌<◌, ◌≤
 ghost use Rattle.std.specs.Int.{bit_at};
 ghost use Rattle.sight_names.specs.declared.names.PairRay.{PairRay as RayOf};
 ghost use Rattle.gate_floods.specs.GateMasks.Words.{HasBit, AreBitsOf};
-ghost use Rattle.exact_checker.specs.Owning.{owning_of, IsBehind, IsOwnedBit, IsSized, KnowsOwning, RanksFrom};
+ghost use Rattle.exact_checker.specs.Owning.{owning_of, RanksBehind, IsOwnedBit, IsSized, KnowsOwning, RanksFrom};
 
 use crate::joining::words_of;
 use gate_floods::gate_masks::Row;
@@ -61,7 +61,7 @@ fn behind_word(known: Owning<'_>, source: u16, place: usize) -> u64
     requires source { source < known.count }
     requires place { 64 * place ≤ known.count }
     requires sized { IsSized (owning_of known) }
-    ensures { (i : ℕ) → i < 64 → (bit_at result i ≡ 1) ↔ IsBehind (owning_of known.entry) source (64 * place + i) }
+    ensures { (i : ℕ) → i < 64 → (bit_at result i ≡ 1) ↔ RanksBehind (owning_of known.entry) source (64 * place + i) }
 {
     let first = 64 * place;
     let end = (first + 64).min(known.count as usize);

@@ -1,7 +1,7 @@
 //! Each pair of sectors judged by which groups are joined.
 
 ghost use Rattle.std.specs.Prelude.{◌≡◌, [], length};
-ghost use Rattle.gate_floods.specs.GateMasks.Masks.{IsIn};
+ghost use Rattle.gate_floods.specs.GateMasks.Masks.{IsInRowOf};
 ghost use Rattle.cert_checker.specs.BlindRows.{HasNoGroup};
 ghost use Rattle.cert_checker.specs.Pairs.{Describes};
 ghost use Rattle.exact_checker.specs.Pairs.{known_of, IsFaultAt, IsFine};
@@ -24,7 +24,7 @@ pub struct Known<'a> {
 impl<'a> Joins for Known<'a> {
     ghost can_tell = { λ k f. Unit {0} };
 
-    ghost joins = { λ k. IsIn k.joined.now };
+    ghost joins = { λ k. IsInRowOf k.joined.now };
 
     fn are_joined(&self, one: u16, other: u16) -> bool {
         is_in(self.joined, one, other)

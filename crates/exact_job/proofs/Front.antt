@@ -12,7 +12,7 @@ use Rattle.sight_names.specs.Groups.{AreGroups, unnamed}
 use Rattle.triangulate.proofs.MeshBound.{few_in_plan}
 use Rattle.face_groups.proofs.GroupsBase.Ordered.{contains_at}
 use Rattle.cert_format.specs.declared.cert.Labelled.{Labelled}
-use Rattle.cert_format.specs.Sizes.{sizes_of}
+use Rattle.cert_format.specs.Sizes.{sizes_of_plan}
 use Rattle.cert_format.proofs.LimitLaws.{twice_fits}
 use Rattle.cert_checker.specs.Apart.{triangles_in, labels_in}
 use Rattle.cert_format.specs.CertGroups.Grammar.{IsGroupInOrder}
@@ -23,7 +23,7 @@ use Rattle.group_job.proofs.GoodLabelled.{labelled_are_good}
 use Rattle.group_job.proofs.KeptFaces.{kept_names, kept_table}
 use Rattle.group_job.proofs.LabelledLaws.{below}
 use Rattle.group_job.proofs.SectorPairs.{of_sectors}
-use Rattle.exact_job.specs.Built.{AreInOrder, IsOverGroups}
+use Rattle.exact_job.specs.Built.{AreInCertificateOrder, IsPlanOfGroups}
 
 group_in_order : (p : PlanParts) → IsPlan p → (groups : List (List ℕ)) → AreGroups (map_of p) groups → (at : List ℕ) → Contains groups at → IsGroupInOrder p.sectors at
 group_in_order p plan groups are at c =
@@ -32,7 +32,7 @@ group_in_order p plan groups are at c =
     record { some = e.0; below = all_of (λ (a : ℕ). a < p.sectors) at (λ a k. of_sectors p plan groups are x.0 a (at, x.1, k)); ascend = e.4.ascend }
 
 pub front : (p : PlanParts) (g : MapOfGroups) (cs : List Labelled) → IsMapOfGroups p g → IsPlan g.plan → AreTriangles g.faces.mesh.points (map (λ (l : Labelled). l.triangle) cs) → length cs ≤ length g.faces.mesh.triangles → cs ≡ labelled_of g.faces.mesh.triangles g.faces.labels
-    → AreInOrder (sizes_of p) g.groups cs
+    → AreInCertificateOrder (sizes_of_plan p) g.groups cs
 front p g cs h plan ascend few is =
     let twice = few_in_plan g.plan plan h.faces.sound.ends g.faces.mesh.triangles h.faces.mesh in
     let points : length g.plan.points ≡ length p.points = ap (λ (ps : List Pt). length ps) h.points in
@@ -47,7 +47,7 @@ front p g cs h plan ascend few is =
     }
 
 -- the map of groups over its labelled triangles
-pub over : (p : PlanParts) (g : MapOfGroups) (cs : List Labelled) → IsMapOfGroups p g → IsPlan g.plan → cs ≡ labelled_of g.faces.mesh.triangles g.faces.labels → IsOverGroups p g.groups (triangles_in cs) (labels_in cs) g.plan
+pub over : (p : PlanParts) (g : MapOfGroups) (cs : List Labelled) → IsMapOfGroups p g → IsPlan g.plan → cs ≡ labelled_of g.faces.mesh.triangles g.faces.labels → IsPlanOfGroups p g.groups (triangles_in cs) (labels_in cs) g.plan
 over p g cs h plan is = record {
   plan = plan;
   sectors = h.map.sectors;

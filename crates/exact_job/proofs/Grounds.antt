@@ -12,13 +12,13 @@ use Rattle.cert_checker.specs.Apart.{triangles_in, labels_in}
 use Rattle.cert_format.specs.declared.cert.Labelled.{Labelled}
 use Rattle.cert_format.specs.declared.cert.Sizes.{Sizes}
 use Rattle.cert_format.proofs.LimitLaws.{few_of}
-use Rattle.exact_job.specs.Built.{AreInOrder, IsOverGroups}
-use Rattle.found_rays.specs.Ground.{IsGround}
+use Rattle.exact_job.specs.Built.{AreInCertificateOrder, IsPlanOfGroups}
+use Rattle.found_rays.specs.Ground.{IsRayGround}
 
-pub few_triangles : (sizes : Sizes) (groups : List (List ℕ)) (cs : List Labelled) → AreInOrder sizes groups cs → length cs ≤ MOST_TRIANGLES
+pub few_triangles : (sizes : Sizes) (groups : List (List ℕ)) (cs : List Labelled) → AreInCertificateOrder sizes groups cs → length cs ≤ MOST_TRIANGLES
 few_triangles sizes groups cs h = few_of sizes.points (length cs) h.few
 
-pub ground : (p g : PlanParts) (sizes : Sizes) (groups : List (List ℕ)) (cs : List Labelled) (ts : List Triangle) (ls : List (Option ℕ)) (xs : List HalfEdge) → AreInOrder sizes groups cs → ts ≡ triangles_in cs → ls ≡ labels_in cs → IsOverGroups p groups (triangles_in cs) (labels_in cs) g → AreHalfEdges g ts ls xs → IsGround g ts ls xs
+pub ground : (p g : PlanParts) (sizes : Sizes) (groups : List (List ℕ)) (cs : List Labelled) (ts : List Triangle) (ls : List (Option ℕ)) (xs : List HalfEdge) → AreInCertificateOrder sizes groups cs → ts ≡ triangles_in cs → ls ≡ labels_in cs → IsPlanOfGroups p groups (triangles_in cs) (labels_in cs) g → AreHalfEdges g ts ls xs → IsRayGround g ts ls xs
 ground p g sizes groups cs ts ls xs h e f over edges = record {
   plan = over.plan;
   audited = over.audited;

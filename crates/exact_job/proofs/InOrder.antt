@@ -8,15 +8,15 @@ use Rattle.sight_names.specs.Order.{Ascends}
 use Rattle.sight_names.specs.Plan.{PlanParts}
 use Rattle.block_evidence.specs.declared.sight_tree.Node.{Node}
 use Rattle.block_evidence.specs.declared.sight_tree.Tree.{Tree}
-use Rattle.portal_walk.specs.Nodes.{IsAnswered}
+use Rattle.portal_walk.specs.Nodes.{IsNodeAnswered}
 use Rattle.cert_format.specs.declared.cert.Labelled.{Labelled}
 use Rattle.cert_format.specs.declared.cert.Sizes.{Sizes}
 use Rattle.cert_format.specs.Grammar.{IsTreeInRange}
 use Rattle.cert_format.specs.CertGroups.Grammar.{IsTwoInOrder, grouped_sizes}
 use Rattle.certificates.specs.CertExact.Grammar.{as_two, trees_from}
-use Rattle.cert_format.specs.Sizes.{sizes_of}
+use Rattle.cert_format.specs.Sizes.{sizes_of_plan}
 use Rattle.exact_checker.specs.Judged.{IsThreeFor}
-use Rattle.exact_job.specs.Built.{AreInOrder}
+use Rattle.exact_job.specs.Built.{AreInCertificateOrder}
 use Rattle.exact_job.specs.Rays.{AreRaysInOrder}
 use Rattle.exact_job.specs.Trees.{AreNodesOfWalks}
 use Rattle.group_job.proofs.BuildLaws.{nodes_in_order}
@@ -26,7 +26,7 @@ use Rattle.group_job.proofs.BuildLaws.{nodes_in_order}
 trees_in_range : (sizes : Sizes) (j : ℕ) (trees : List (List Node)) → j + length trees ≤ sizes.sectors → AreNodesOfWalks trees → AllByRecursion (IsTreeInRange sizes) (trees_from j trees)
 trees_in_range sizes j [] room h = tt
 trees_in_range sizes j (ns ∷ trees) room h = (
-  (omega (arith, room), nodes_in_order ns (recursion_from_All IsAnswered ns (h 0 ns refl))),
+  (omega (arith, room), nodes_in_order ns (recursion_from_All IsNodeAnswered ns (h 0 ns refl))),
   trees_in_range sizes (suc j) trees (omega (arith, room)) (λ f us at. h (suc f) us at),
 )
 
@@ -43,7 +43,7 @@ trees_ascend trees i k t u lt at_t at_u =
 
 -- ---- all together
 
-pub in_order : (sizes : Sizes) (groups : List (List ℕ)) (triangles : List Labelled) (rays : List PairRay) (trees : List (List Node)) → AreInOrder sizes groups triangles → AreRaysInOrder (grouped_sizes sizes groups) rays → length trees ≡ length groups → AreNodesOfWalks trees
+pub in_order : (sizes : Sizes) (groups : List (List ℕ)) (triangles : List Labelled) (rays : List PairRay) (trees : List (List Node)) → AreInCertificateOrder sizes groups triangles → AreRaysInOrder (grouped_sizes sizes groups) rays → length trees ≡ length groups → AreNodesOfWalks trees
     → IsTwoInOrder sizes (as_two (record { sizes = sizes; groups = groups; triangles = triangles; rays = rays; trees = trees }))
 in_order sizes groups triangles rays trees front h each nodes = record {
   few = front.few_groups;
@@ -67,7 +67,7 @@ in_order sizes groups triangles rays trees front h each nodes = record {
 }
 
 -- the certificate is one for the plan
-pub three : (p : PlanParts) (sizes : Sizes) (groups : List (List ℕ)) (triangles : List Labelled) (rays : List PairRay) (trees : List (List Node)) → sizes ≡ sizes_of p → IsTwoInOrder sizes (as_two (record { sizes = sizes; groups = groups; triangles = triangles; rays = rays; trees = trees })) → length trees ≡ length groups
+pub three : (p : PlanParts) (sizes : Sizes) (groups : List (List ℕ)) (triangles : List Labelled) (rays : List PairRay) (trees : List (List Node)) → sizes ≡ sizes_of_plan p → IsTwoInOrder sizes (as_two (record { sizes = sizes; groups = groups; triangles = triangles; rays = rays; trees = trees })) → length trees ≡ length groups
     → IsThreeFor p (record { sizes = sizes; groups = groups; triangles = triangles; rays = rays; trees = trees })
 three p sizes groups triangles rays trees same order each = record {
   two = record {

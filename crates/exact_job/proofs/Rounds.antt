@@ -20,10 +20,10 @@ use Rattle.mesh_base.proofs.SightLaws.SightLaws.{turned_sight}
 use Rattle.face_groups.proofs.TriSectors.GoodLabels.{label_below}
 use Rattle.mesh_shape.specs.declared.half_edges.table.HalfEdge.{HalfEdge}
 use Rattle.block_evidence.specs.declared.sight_tree.Node.{Node}
-use Rattle.portal_walk.specs.Nodes.{IsAnswered}
+use Rattle.portal_walk.specs.Nodes.{IsNodeAnswered}
 use Rattle.cert_format.specs.declared.cert.Sizes.{Sizes}
 use Rattle.cert_format.specs.Grammar.{IsRayInRange}
-use Rattle.cert_checker.specs.Pairs.{IsWithin}
+use Rattle.cert_checker.specs.Pairs.{IsPairWithin}
 use Rattle.cert_checker.specs.Rays.{AreSightRaysBelow}
 use Rattle.pair_budget.specs.declared.results.Reached.{Reached}
 use Rattle.pair_budget.specs.PairRays.{toward}
@@ -33,7 +33,7 @@ use Rattle.cert_checker.specs.AcceptedGroups.Accepted.{AreGroupsJoined}
 use Rattle.gate_floods.specs.Bits.{is_joined}
 use Rattle.gate_floods.proofs.RowBits.{not_joined}
 use Rattle.row_trees.specs.declared.made.Made.{Made}
-use Rattle.row_trees.specs.Made.{AreSeen}
+use Rattle.row_trees.specs.Made.{AreFoundSeen}
 use Rattle.gate_floods.specs.declared.gate_masks.masks.Row.{Row}
 use Rattle.exact_checker.specs.Rows.{AreJoinedRows}
 use Rattle.exact_checker.proofs.JoinedRows.{cert_of}
@@ -42,14 +42,14 @@ use Rattle.exact_job.specs.declared.settling.Settled.{Settled}
 use Rattle.exact_job.specs.Built.{IsSettled}
 use Rattle.found_rays.specs.Rays.{AreFoundInOrder, AreOneEach, IsFoundRay}
 use Rattle.exact_job.specs.Rays.{AreRaysInOrder}
-use Rattle.exact_job.specs.Rounds.{AreNoted, HasMore, IsRound}
-use Rattle.exact_job.specs.Trees.{AreTreesFor, AreWalks, HasFound, HasFoundNothing, nodes_of}
+use Rattle.exact_job.specs.Rounds.{AreRaysNoted, HasMore, IsSettlingRound}
+use Rattle.exact_job.specs.Trees.{AreTreesFor, AreRowWalks, HasFound, HasFoundNothing, nodes_of_walks}
 use Rattle.exact_job.proofs.Walks.{nodes_at}
 use Rattle.exact_job.proofs.Counting.{Rise, HasKey, few, less}
 
 -- ---- what one walk found
 
-pub is_found : (p : PlanParts) (f : ℕ) (found : List Reached) (x : Reached) → AreSeen p f found → Contains found x → IsFoundRay p (toward f x)
+pub is_found : (p : PlanParts) (f : ℕ) (found : List Reached) (x : Reached) → AreFoundSeen p f found → Contains found x → IsFoundRay p (toward f x)
 is_found p f found x s c =
     let here = All-contains (IsReachedFrom p f) found x s.reached.each c in
     let sight = All-contains (λ (r : Reached). IsSightRay (map_of p) r.ray f r.to) found x s.sight c in
@@ -58,10 +58,10 @@ is_found p f found x s c =
       | inr down ↦ subst (IsFoundRay p) (sym (toward_down f x down)) (record { order = down; first = here.last; last = here.first; sight = turned_sight (map_of p) x.ray f x.to sight })
     ]
 
-pub in_range : (p : PlanParts) (f : ℕ) (found : List Reached) → AreSeen p f found → All (λ (r : Reached). IsInRange r.ray) found
+pub in_range : (p : PlanParts) (f : ℕ) (found : List Reached) → AreFoundSeen p f found → All (λ (r : Reached). IsInRange r.ray) found
 in_range p f found s = All-from_recursion _ found (all_of (λ (r : Reached). IsInRange r.ray) found (λ r c. (All-contains (IsReachedFrom p f) found r s.reached.each c).range))
 
-pub found_more : (p : PlanParts) (f : ℕ) (found : List Reached) (rays : List PairRay) → AreSeen p f found → All (IsFoundRay p) rays → All (IsFoundRay p) (rays ++ map (toward f) found)
+pub found_more : (p : PlanParts) (f : ℕ) (found : List Reached) (rays : List PairRay) → AreFoundSeen p f found → All (IsFoundRay p) rays → All (IsFoundRay p) (rays ++ map (toward f) found)
 found_more p f found rays s old =
     All-append (IsFoundRay p) rays (map (toward f) found) old
     (All-map (IsFoundRay p) (toward f) found (All-from_recursion _ found (all_of (λ (x : Reached). IsFoundRay p (toward f x)) found (λ x c. is_found p f found x s c))))
@@ -84,7 +84,7 @@ item_at xs i x is lt = slice_get-get_or xs i x lt ∙ ap (λ y. Some y) (sym is)
 pub record AreNotedBelow (walks : List Made) (n : ℕ) (old new : List PairRay) : Type 0 where
   pub kept : (r : PairRay) → Contains old r → Contains new r
   pub noted : (f : ℕ) (w : Made) (r : Reached) → f < n → slice_get walks f ≡ Some w → Contains w.found.items r → Contains new (toward f r)
-  pub found : (p : PlanParts) → ((f : ℕ) (w : Made) → slice_get walks f ≡ Some w → AreSeen p f w.found.items) → All (IsFoundRay p) old → All (IsFoundRay p) new
+  pub found : (p : PlanParts) → ((f : ℕ) (w : Made) → slice_get walks f ≡ Some w → AreFoundSeen p f w.found.items) → All (IsFoundRay p) old → All (IsFoundRay p) new
 
 pub walk_noted : (walks : List Made) (n : ℕ) (w : Made) (old mid new : List PairRay) → slice_get walks n ≡ Some w → AreNotedBelow walks n old mid → new ≡ mid ++ map (toward n) w.found.items → AreNotedBelow walks (n + 1) old new
 walk_noted walks n w old mid new at h is = subst (AreNotedBelow walks (n + 1) old) (sym is) (record {
@@ -99,7 +99,7 @@ walk_noted walks n w old mid new at h is = subst (AreNotedBelow walks (n + 1) ol
   found = λ p seen before. found_more p n w.found.items mid (seen n w at) (h.found p seen before);
 })
 
-pub all_noted : (walks : List Made) (n : ℕ) (old new : List PairRay) → length walks ≤ n → AreNotedBelow walks n old new → AreNoted walks old new
+pub all_noted : (walks : List Made) (n : ℕ) (old new : List PairRay) → length walks ≤ n → AreNotedBelow walks n old new → AreRaysNoted walks old new
 all_noted walks n old new end h = record {
   kept = h.kept;
   noted = λ f w r at c. h.noted f w r (let l : f < length walks = slice_get_within walks f w at in omega (arith, l, end)) at c;
@@ -128,7 +128,7 @@ key_same n a b c d l r e = elim (below_same_or_above a c) as (λ _. (a ≡ c) ×
 ]
 
 -- their pairs are pairs of groups
-pub pairs_within : (p : PlanParts) (rays : List PairRay) → IsPlan p → AreFoundInOrder p rays → (i : ℕ) (r : PairRay) → slice_get rays i ≡ Some r → IsWithin p.sectors r.pair
+pub pairs_within : (p : PlanParts) (rays : List PairRay) → IsPlan p → AreFoundInOrder p rays → (i : ℕ) (r : PairRay) → slice_get rays i ≡ Some r → IsPairWithin p.sectors r.pair
 pairs_within p rays plan h i r at = let f = h.found r (contains_of_get rays r i at) in (f.order, found_within p r plan f)
 
 -- one for each pair of those that are found
@@ -151,7 +151,7 @@ module _ (p : PlanParts) (plan : IsPlan p) where
 
   -- ---- more rays
 
-  module _ (ts : List Triangle) (xs : List HalfEdge) (round : Round) (is : IsRound p ts xs round) (mid rays : List PairRay) (noted : AreNoted round.walks.items round.rays.items mid) (each : AreOneEach mid rays) where
+  module _ (ts : List Triangle) (xs : List HalfEdge) (round : Round) (is : IsSettlingRound p ts xs round) (mid rays : List PairRay) (noted : AreRaysNoted round.walks.items round.rays.items mid) (each : AreOneEach mid rays) where
     all_found : All (IsFoundRay p) mid
     all_found = noted.found p is.walks.seen (All-from_recursion (IsFoundRay p) round.rays.items (all_of (IsFoundRay p) round.rays.items is.rays.found))
 
@@ -224,21 +224,21 @@ rays_in_order p sizes rays plan sectors lines h = record {
 }
 
 -- the walks' rays are in range
-pub ranges : (p : PlanParts) (ts : List Triangle) (xs : List HalfEdge) (joined : List Row) (walks : List Made) → AreWalks p ts xs joined walks → (f : ℕ) (w : Made) → slice_get walks f ≡ Some w → All (λ (r : Reached). IsInRange r.ray) w.found.items
+pub ranges : (p : PlanParts) (ts : List Triangle) (xs : List HalfEdge) (joined : List Row) (walks : List Made) → AreRowWalks p ts xs joined walks → (f : ℕ) (w : Made) → slice_get walks f ≡ Some w → All (λ (r : Reached). IsInRange r.ray) w.found.items
 ranges p ts xs joined walks h f w at = in_range p f w.found.items (h.seen f w at)
 
 pub ranges_same : (walks same : List Made) → same ≡ walks → ((f : ℕ) (w : Made) → slice_get walks f ≡ Some w → All (λ (r : Reached). IsInRange r.ray) w.found.items) → (f : ℕ) (w : Made) → slice_get same f ≡ Some w → All (λ (r : Reached). IsInRange r.ray) w.found.items
 ranges_same walks same e h f w at = h f w (ap (λ (ws : List Made). slice_get ws f) (sym e) ∙ at)
 
-module _ (p : PlanParts) (ts : List Triangle) (xs : List HalfEdge) (round : Round) (is : IsRound p ts xs round) (nothing : HasFoundNothing round.walks.items) where
-  trees_are : AreTreesFor p ts xs round.joined.items (nodes_of round.walks.items)
+module _ (p : PlanParts) (ts : List Triangle) (xs : List HalfEdge) (round : Round) (is : IsSettlingRound p ts xs round) (nothing : HasFoundNothing round.walks.items) where
+  trees_are : AreTreesFor p ts xs round.joined.items (nodes_of_walks round.walks.items)
   trees_are = record {
     one_each = length-map round.walks.items (λ (w : Made). w.nodes) ∙ is.walks.one_each;
-    nodes = λ f ns at. let w = nodes_at round.walks.items f ns at in subst (λ (us : List Node). All IsAnswered us) w.2 (is.walks.nodes f w.0 w.1);
+    nodes = λ f ns at. let w = nodes_at round.walks.items f ns at in subst (λ (us : List Node). All IsNodeAnswered us) w.2 (is.walks.nodes f w.0 w.1);
     keep = is.walks.keep nothing;
   }
 
-  pub is_settled : (sizes : Sizes) (s : Settled) → IsPlan p → sizes.sectors ≡ p.sectors → sizes.lines ≡ length p.lines → s.rays.items ≡ round.rays.items → s.joined.items ≡ round.joined.items → s.trees.items ≡ nodes_of round.walks.items → IsSettled p ts xs sizes s
+  pub is_settled : (sizes : Sizes) (s : Settled) → IsPlan p → sizes.sectors ≡ p.sectors → sizes.lines ≡ length p.lines → s.rays.items ≡ round.rays.items → s.joined.items ≡ round.joined.items → s.trees.items ≡ nodes_of_walks round.walks.items → IsSettled p ts xs sizes s
   is_settled sizes s plan sectors lines rays joined trees = record {
     rays = subst (AreRaysInOrder sizes) (sym rays) (rays_in_order p sizes round.rays.items plan sectors lines is.rays);
     joined = subst (λ (rs : List PairRay). AreJoinedRows p.sectors rs s.joined.items) (sym rays) (subst (AreJoinedRows p.sectors round.rays.items) (sym joined) is.joined);

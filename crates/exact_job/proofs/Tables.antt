@@ -22,8 +22,8 @@ use Rattle.group_job.specs.Sectors.{AreListedByGroups, AreOfSectors, ArePairsBel
 use Rattle.group_job.proofs.Following.{set_or_clear}
 use Rattle.group_job.proofs.Marks.{sets_as}
 use Rattle.exact_checker.specs.Judged.{IsThreeFor}
-use Rattle.found_rays.specs.Lines.{pair_of}
-use Rattle.exact_job.specs.Table.{AreInOneGroup, IsTableOf}
+use Rattle.found_rays.specs.Lines.{pair_of_ray}
+use Rattle.exact_job.specs.Table.{AreInOneGroup, IsTableOfGroups}
 
 -- ---- the sectors of the i-th group with each other
 
@@ -45,19 +45,19 @@ own_set groups old new = sets_as (OfSteps (OwnStep groups) (length groups)) (Are
 
 -- ---- the pair of the i-th ray
 
-pub pair_there : (rays : List PairRay) (i : ℕ) (d : PairRay) → i < length rays → slice_get (map pair_of rays) i ≡ Some (get_or rays i d).pair
-pair_there rays i d lt = slice_get-map pair_of rays i ∙ ap (option_map pair_of) (slice_get-get_or rays i d lt)
+pub pair_there : (rays : List PairRay) (i : ℕ) (d : PairRay) → i < length rays → slice_get (map pair_of_ray rays) i ≡ Some (get_or rays i d).pair
+pair_there rays i d lt = slice_get-map pair_of_ray rays i ∙ ap (option_map pair_of_ray) (slice_get-get_or rays i d lt)
 
-pub pair_low : (n : ℕ) (rays : List PairRay) (i : ℕ) (d : PairRay) → ArePairsBelow n (map pair_of rays) → i < length rays → ((get_or rays i d).pair.a < n) × ((get_or rays i d).pair.b < n)
-pair_low n rays i d below lt = let q = (get_or rays i d).pair in below q (at_contains (map pair_of rays) q (i, pair_there rays i d lt))
+pub pair_low : (n : ℕ) (rays : List PairRay) (i : ℕ) (d : PairRay) → ArePairsBelow n (map pair_of_ray rays) → i < length rays → ((get_or rays i d).pair.a < n) × ((get_or rays i d).pair.b < n)
+pair_low n rays i d below lt = let q = (get_or rays i d).pair in below q (at_contains (map pair_of_ray rays) q (i, pair_there rays i d lt))
 
 -- a ray for a pair of theirs
-ray_of : (rays : List PairRay) (q : Pair) → Contains (map pair_of rays) q → (r : PairRay) × Contains rays r × (r.pair ≡ q)
-ray_of rays q w = let x = contains_at (map pair_of rays) q w in go x.0 (sym (slice_get-map pair_of rays x.0) ∙ x.1) (slice_get rays x.0) refl
+ray_of : (rays : List PairRay) (q : Pair) → Contains (map pair_of_ray rays) q → (r : PairRay) × Contains rays r × (r.pair ≡ q)
+ray_of rays q w = let x = contains_at (map pair_of_ray rays) q w in go x.0 (sym (slice_get-map pair_of_ray rays x.0) ∙ x.1) (slice_get rays x.0) refl
   where
-    go : (i : ℕ) → option_map pair_of (slice_get rays i) ≡ Some q → (o : Option PairRay) → slice_get rays i ≡ o → (r : PairRay) × Contains rays r × (r.pair ≡ q)
-    go i at None e = absurd (none-some q (sym (ap (option_map pair_of) e) ∙ at))
-    go i at (Some r) e = (r, at_contains rays r (i, e), same_Some r.pair q (sym (ap (option_map pair_of) e) ∙ at))
+    go : (i : ℕ) → option_map pair_of_ray (slice_get rays i) ≡ Some q → (o : Option PairRay) → slice_get rays i ≡ o → (r : PairRay) × Contains rays r × (r.pair ≡ q)
+    go i at None e = absurd (none-some q (sym (ap (option_map pair_of_ray) e) ∙ at))
+    go i at (Some r) e = (r, at_contains rays r (i, e), same_Some r.pair q (sym (ap (option_map pair_of_ray) e) ∙ at))
 
 -- ---- groups and rays of a certificate
 
@@ -73,7 +73,7 @@ module _ (p : PlanParts) (c : ExactParts) (h : IsThreeFor p c) where
       let x = contains_at c.rays r w in
       subst (λ (s : Sizes). IsRayInRange s r) h.two.in_order.grouped (all_at (IsRayInRange (as_two c).cert.sizes) c.rays h.two.in_order.in_order.rays x.0 r x.1)
 
-  pub pairs_below : ArePairsBelow (length c.groups) (map pair_of c.rays)
+  pub pairs_below : ArePairsBelow (length c.groups) (map pair_of_ray c.rays)
   pairs_below q w =
       let r = ray_of c.rays q w in
       let x = ranges r.0 r.1 in
@@ -83,12 +83,12 @@ module _ (p : PlanParts) (c : ExactParts) (h : IsThreeFor p c) where
 
 -- ---- what the bits tell
 
-module _ (c : ExactParts) (clear own seen t : TableParts) (none : (a b : ℕ) → ¬ Rejects clear a b) (first : SetsMore (AreInOneGroup c.groups) clear own) (more : SetsMore (AreListedByGroups (map pair_of c.rays) c.groups) own seen) (others : HasOtherBits seen t) where
+module _ (c : ExactParts) (clear own seen t : TableParts) (none : (a b : ℕ) → ¬ Rejects clear a b) (first : SetsMore (AreInOneGroup c.groups) clear own) (more : SetsMore (AreListedByGroups (map pair_of_ray c.rays) c.groups) own seen) (others : HasOtherBits seen t) where
   abbrev AreMarked : ℕ → ℕ → Type 0
-  AreMarked a b = AreInOneGroup c.groups a b ⊎ AreListedByGroups (map pair_of c.rays) c.groups a b
+  AreMarked a b = AreInOneGroup c.groups a b ⊎ AreListedByGroups (map pair_of_ray c.rays) c.groups a b
 
-  listed : (f k : ℕ) → HasRay (as_two c).cert f k → Contains (map pair_of c.rays) (record { a = f; b = k })
-  listed f k w = subst (λ (q : Pair). Contains (map pair_of c.rays) q) w.2 (contains_map pair_of c.rays w.0 w.1)
+  listed : (f k : ℕ) → HasRay (as_two c).cert f k → Contains (map pair_of_ray c.rays) (record { a = f; b = k })
+  listed f k w = subst (λ (q : Pair). Contains (map pair_of_ray c.rays) q) w.2 (contains_map pair_of_ray c.rays w.0 w.1)
 
   to_seen : (a b : ℕ) → AreMarked a b → IsGroupedSeen (as_two c) a b
   to_seen a b (inl w) = (w.0, w.0, w.1, w.2, inl refl)
@@ -131,5 +131,5 @@ module _ (c : ExactParts) (clear own seen t : TableParts) (none : (a b : ℕ) �
       | inr not ↦ absurd (free ((others.bits a b (low_seen a la) (low_seen b lb)).1 not))
     ]
 
-  pub table_is : IsTableOf (as_two c) t
+  pub table_is : IsTableOfGroups (as_two c) t
   table_is = record { set = λ a b la lb. set_not_seen a b la lb; clear = λ a b la lb. clear_seen a b la lb }

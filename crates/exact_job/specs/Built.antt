@@ -21,7 +21,7 @@ use Rattle.exact_job.specs.Rays.{AreRaysInOrder}
 use Rattle.exact_job.specs.Trees.{AreTreesFor}
 
 -- groups and labelled triangles as a certificate for a map of these sizes may have them
-pub record AreInOrder (sizes : Sizes) (groups : List (List ℕ)) (triangles : List Labelled) : Type 0 where
+pub record AreInCertificateOrder (sizes : Sizes) (groups : List (List ℕ)) (triangles : List Labelled) : Type 0 where
   pub few_groups : length groups ≤ most_triangles sizes.points
   pub groups_are : AllByRecursion (IsGroupInOrder sizes.sectors) groups
   pub groups_ascend : Ascends ListBefore groups
@@ -31,7 +31,7 @@ pub record AreInOrder (sizes : Sizes) (groups : List (List ℕ)) (triangles : Li
 
 -- the map of groups of a map with closed faces, over the same lines; the groups are the lists of its faces, and the triangles with
 -- their labels are a good mesh of it
-pub record IsOverGroups (p : PlanParts) (groups : List (List ℕ)) (ts : List Triangle) (ls : List (Option ℕ)) (g : PlanParts) : Type 0 where
+pub record IsPlanOfGroups (p : PlanParts) (groups : List (List ℕ)) (ts : List Triangle) (ls : List (Option ℕ)) (g : PlanParts) : Type 0 where
   pub plan : IsPlan g
   pub sectors : g.sectors ≡ length groups
   pub lines : length g.lines ≡ length p.lines

@@ -10,6 +10,6 @@ abbrev pub AreInOneGroup : List (List ℕ) → ℕ → ℕ → Type 0
 AreInOneGroup groups a b = (f : ℕ) × IsInGroup groups a f × IsInGroup groups b f
 
 -- a bit is set exactly where no groups of the two sectors are joined
-pub record IsTableOf (c : CertTwo) (t : TableParts) : Type 0 where
+pub record IsTableOfGroups (c : CertTwo) (t : TableParts) : Type 0 where
   pub set : (a b : ℕ) → a < t.n → b < t.n → Rejects t a b → ¬ IsGroupedSeen c a b
   pub clear : (a b : ℕ) → a < t.n → b < t.n → ¬ Rejects t a b → IsGroupedSeen c a b

@@ -6,15 +6,15 @@ ghost use Rattle.sight_names.specs.Map.{map_of};
 ghost use Rattle.sight_names.specs.Mesh.{AreTriangles};
 ghost use Rattle.sight_names.specs.Sound.{LinesMeetAtEnds};
 ghost use Rattle.mesh_shape.specs.HalfEdges.HalfEdges.{AreHalfEdges};
-ghost use Rattle.cert_format.specs.Sizes.{sizes_of as sizes_of_plan};
+ghost use Rattle.cert_format.specs.Sizes.{sizes_of_plan};
 ghost use Rattle.cert_checker.specs.Apart.{triangles_in, labels_in};
 ghost use Rattle.cert_checker.specs.Rays.{AreSightRaysBelow};
 ghost use Rattle.cert_format.specs.CertGroups.Grammar.{IsTwoInOrder};
 ghost use Rattle.certificates.specs.CertExact.Grammar.{as_two};
 ghost use Rattle.gate_floods.specs.Exact.{IsAcceptedThree, TellsAll};
-ghost use Rattle.group_job.specs.Built.{IsGroupFault};
+ghost use Rattle.group_job.specs.Built.{IsOpenFace};
 ghost use Rattle.exact_checker.specs.Judged.{IsThreeFor, TellsTrees};
-ghost use Rattle.exact_job.specs.Built.{AreInOrder, IsOverGroups};
+ghost use Rattle.exact_job.specs.Built.{AreInCertificateOrder, IsPlanOfGroups};
 
 use crate::settling::settle;
 use crate::table::table_of;
@@ -97,7 +97,7 @@ fn finish(
 ) -> Result<ExactBuilt, Memory>
     requires audited { LinesMeetAtEnds (map_of plan.now) }
     requires three { IsThreeFor plan.now cert }
-    requires over { IsOverGroups plan.now cert.groups (triangles_in cert.triangles) (labels_in cert.triangles) over.now.plan }
+    requires over { IsPlanOfGroups plan.now cert.groups (triangles_in cert.triangles) (labels_in cert.triangles) over.now.plan }
     requires rays { AreSightRaysBelow (map_of over.now.plan) cert.rays (length cert.rays) }
     requires trees { TellsTrees (map_of over.now.plan) cert None }
     ensures sectors { IfOk result (λ b. b.table.n ≡ plan.now.sectors) }
@@ -130,10 +130,10 @@ fn build_grouped<W: Walkers>(
     requires can_search { W.can_search walkers.now }
     requires audited { LinesMeetAtEnds (map_of plan.now) }
     requires sizes { sizes ≡ sizes_of_plan plan.now }
-    requires in_order { AreInOrder sizes groups triangles.items }
+    requires in_order { AreInCertificateOrder sizes groups triangles.items }
     requires triangles { over.now.mesh.triangles ≡ triangles_in triangles.items }
     requires labels { over.now.labels ≡ labels_in triangles.items }
-    requires over { IsOverGroups plan.now groups (triangles_in triangles.items) (labels_in triangles.items) over.now.plan }
+    requires over { IsPlanOfGroups plan.now groups (triangles_in triangles.items) (labels_in triangles.items) over.now.plan }
     ensures sectors { IfOk result (λ b. b.table.n ≡ plan.now.sectors) }
     ensures groups { IfOk result (λ b. b.cert.groups ≡ groups) }
     ensures in_order { IfOk result (λ b. IsTwoInOrder (sizes_of_plan plan.now) (as_two b.cert)) }
@@ -175,7 +175,7 @@ fn build_with<W: Walkers>(walkers: &W, alloc: Global, plan: &Plan) -> Result<Exa
     requires can_judge { W.can_judge walkers.now }
     requires can_search { W.can_search walkers.now }
     requires audited { LinesMeetAtEnds (map_of plan.now) }
-    ensures fault { IfErr result (IsGroupFault (map_of plan.now)) }
+    ensures fault { IfErr result (IsOpenFace (map_of plan.now)) }
     ensures sectors { IfOk result (λ b. b.table.n ≡ plan.now.sectors) }
     ensures closed { IfOk result (λ b. HasClosedFaces (map_of plan.now)) }
     ensures groups { IfOk result (λ b. AreGroups (map_of plan.now) b.cert.groups) }
@@ -214,7 +214,7 @@ pub fn build_exact<R: Threads + Sync>(
     watcher: Option<&Watcher>,
 ) -> Result<ExactBuilt, GroupFault>
     requires audited { LinesMeetAtEnds (map_of plan.now) }
-    ensures fault { IfErr result (IsGroupFault (map_of plan.now)) }
+    ensures fault { IfErr result (IsOpenFace (map_of plan.now)) }
     ensures sectors { IfOk result (λ b. b.table.n ≡ plan.now.sectors) }
     ensures closed { IfOk result (λ b. HasClosedFaces (map_of plan.now)) }
     ensures groups { IfOk result (λ b. AreGroups (map_of plan.now) b.cert.groups) }
@@ -242,7 +242,7 @@ pub fn build_exact<R: Threads + Sync>(
 /// `Open` at the least side that names a sector and whose face reaches outside the convex hull of the points.
 pub fn build_exact_alone(alloc: Global, plan: &Plan) -> Result<ExactBuilt, GroupFault>
     requires audited { LinesMeetAtEnds (map_of plan.now) }
-    ensures fault { IfErr result (IsGroupFault (map_of plan.now)) }
+    ensures fault { IfErr result (IsOpenFace (map_of plan.now)) }
     ensures sectors { IfOk result (λ b. b.table.n ≡ plan.now.sectors) }
     ensures closed { IfOk result (λ b. HasClosedFaces (map_of plan.now)) }
     ensures groups { IfOk result (λ b. AreGroups (map_of plan.now) b.cert.groups) }

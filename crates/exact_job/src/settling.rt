@@ -8,10 +8,10 @@ ghost use Rattle.mesh_shape.specs.declared.half_edges.table.HalfEdge.{HalfEdge a
 ghost use Rattle.pair_budget.specs.PairRays.{toward as ray_toward};
 ghost use Rattle.row_trees.specs.declared.made.Made.{Made as MadeOf};
 ghost use Rattle.exact_job.specs.Built.{IsSettled};
-ghost use Rattle.found_rays.specs.Ground.{IsGround};
+ghost use Rattle.found_rays.specs.Ground.{IsRayGround};
 ghost use Rattle.found_rays.specs.Rays.{AreFoundInOrder};
-ghost use Rattle.exact_job.specs.Rounds.{AreNoted, HasMore, IsRound};
-ghost use Rattle.exact_job.specs.Trees.{HasFound, HasFoundNothing, nodes_of};
+ghost use Rattle.exact_job.specs.Rounds.{AreRaysNoted, HasMore, IsSettlingRound};
+ghost use Rattle.exact_job.specs.Trees.{HasFound, HasFoundNothing, nodes_of_walks};
 
 use crate::trees::make_trees;
 use crate::walkers::Walkers;
@@ -55,9 +55,9 @@ fn round_of<W: Walkers>(
     rays: Vec<PairRay>,
 ) -> Result<Round, Memory>
     requires can { W.can_walk walkers.now }
-    requires ground { IsGround over.now.plan over.now.mesh.triangles over.now.labels edges.now }
+    requires ground { IsRayGround over.now.plan over.now.mesh.triangles over.now.labels edges.now }
     requires rays { AreFoundInOrder over.now.plan rays.items }
-    ensures round { IfOk result (IsRound over.now.plan over.now.mesh.triangles edges.now) }
+    ensures round { IfOk result (IsSettlingRound over.now.plan over.now.mesh.triangles edges.now) }
     ensures rays { IfOk result (λ r. r.rays.items ≡ rays.items) }
 {
     let plan = &over.plan;
@@ -105,7 +105,7 @@ fn note_found(rays: &mut Vec<PairRay>, source: u16, found: &[Reached]) -> Result
 fn note_walks(rays: &mut Vec<PairRay>, walks: &[Made], count: u16) -> Result<(), Memory>
     requires count { length walks.now ≡ count }
     requires range { (f : ℕ) (w : MadeOf) → slice_get walks.now f ≡ Some w → All (λ r. IsInRange r.ray) w.found.items }
-    ensures { OnOk result (AreNoted walks.now rays.old.items rays.new.items) }
+    ensures { OnOk result (AreRaysNoted walks.now rays.old.items rays.new.items) }
 {
     for source in 0..count {
         note_found(rays, source, walks[source as usize].found.as_slice())?;
@@ -117,7 +117,7 @@ fn note_walks(rays: &mut Vec<PairRay>, walks: &[Made], count: u16) -> Result<(),
 fn more_rays(alloc: Global, count: u16, round: Round) -> Result<Vec<PairRay>, Memory>
     requires count { length round.walks.items ≡ count }
     requires range { (f : ℕ) (w : MadeOf) → slice_get round.walks.items f ≡ Some w → All (λ r. IsInRange r.ray) w.found.items }
-    ensures { (p : PlanParts) (ts : List TriangleOf) (xs : List HalfEdgeOf) → IsPlan p → IsRound p ts xs round → IfOk result (λ v. HasMore p round v.items) }
+    ensures { (p : PlanParts) (ts : List TriangleOf) (xs : List HalfEdgeOf) → IsPlan p → IsSettlingRound p ts xs round → IfOk result (λ v. HasMore p round v.items) }
 {
     let Round {
         mut rays,
@@ -130,7 +130,7 @@ fn more_rays(alloc: Global, count: u16, round: Round) -> Result<Vec<PairRay>, Me
 
 /// The nodes of each walk.
 fn trees_of(alloc: Global, walks: Vec<Made>) -> Result<Vec<Nodes>, Memory>
-    ensures { IfOk result (λ v. v.items ≡ nodes_of walks.items) }
+    ensures { IfOk result (λ v. v.items ≡ nodes_of_walks walks.items) }
 {
     let mut trees = Vec::new(alloc);
     for made in walks {
@@ -142,7 +142,7 @@ fn trees_of(alloc: Global, walks: Vec<Made>) -> Result<Vec<Nodes>, Memory>
 /// Rays and trees of a round whose walks found nothing.
 fn end_of(alloc: Global, sizes: Sizes, round: Round) -> Result<Settled, Memory>
     requires nothing { HasFoundNothing round.walks.items }
-    ensures { (p : PlanParts) (ts : List TriangleOf) (xs : List HalfEdgeOf) → IsPlan p → sizes.sectors ≡ p.sectors → sizes.lines ≡ length p.lines → IsRound p ts xs round → IfOk result (IsSettled p ts xs sizes) }
+    ensures { (p : PlanParts) (ts : List TriangleOf) (xs : List HalfEdgeOf) → IsPlan p → sizes.sectors ≡ p.sectors → sizes.lines ≡ length p.lines → IsSettlingRound p ts xs round → IfOk result (IsSettled p ts xs sizes) }
 {
     let Round {
         rays,
@@ -167,8 +167,8 @@ fn first_round<W: Walkers>(
     requires can { W.can_walk walkers.now }
     requires can_judge { W.can_judge walkers.now }
     requires can_search { W.can_search walkers.now }
-    requires ground { IsGround over.now.plan over.now.mesh.triangles over.now.labels edges.now }
-    ensures { IfOk result (IsRound over.now.plan over.now.mesh.triangles edges.now) }
+    requires ground { IsRayGround over.now.plan over.now.mesh.triangles over.now.labels edges.now }
+    ensures { IfOk result (IsSettlingRound over.now.plan over.now.mesh.triangles edges.now) }
 {
     let found = first_rays(walkers, alloc, &over.plan, &over.mesh, edges)?;
     let each = in_order(alloc, found)?;
@@ -185,10 +185,10 @@ fn next_round<W: Walkers>(
     round: Round,
 ) -> Result<Round, Memory>
     requires can { W.can_walk walkers.now }
-    requires ground { IsGround over.now.plan over.now.mesh.triangles over.now.labels edges.now }
-    requires round { IsRound over.now.plan over.now.mesh.triangles edges.now round }
+    requires ground { IsRayGround over.now.plan over.now.mesh.triangles over.now.labels edges.now }
+    requires round { IsSettlingRound over.now.plan over.now.mesh.triangles edges.now round }
     requires found { HasFound round.walks.items }
-    ensures round { IfOk result (IsRound over.now.plan over.now.mesh.triangles edges.now) }
+    ensures round { IfOk result (IsSettlingRound over.now.plan over.now.mesh.triangles edges.now) }
     ensures more { IfOk result (λ r. length round.rays.items < length r.rays.items) }
 {
     let plan = &over.plan;
@@ -209,7 +209,7 @@ pub fn settle<W: Walkers>(
     requires can_search { W.can_search walkers.now }
     requires sectors { sizes.sectors ≡ over.now.plan.sectors }
     requires lines { sizes.lines ≡ length over.now.plan.lines }
-    requires ground { IsGround over.now.plan over.now.mesh.triangles over.now.labels edges.now }
+    requires ground { IsRayGround over.now.plan over.now.mesh.triangles over.now.labels edges.now }
     ensures { IfOk result (IsSettled over.now.plan over.now.mesh.triangles edges.now sizes) }
 {
     let mut round = first_round(walkers, alloc, over, edges)?;

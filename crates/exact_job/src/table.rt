@@ -5,8 +5,8 @@ ghost use Rattle.certificates.specs.declared.cert_exact.cert.ExactParts.{ExactPa
 ghost use Rattle.certificates.specs.CertExact.Grammar.{as_two};
 ghost use Rattle.group_job.specs.Marks.{SetsMore};
 ghost use Rattle.group_job.specs.Sectors.{AreListedByGroups, AreOfSectors, ArePairsBelow};
-ghost use Rattle.found_rays.specs.Lines.{pair_of};
-ghost use Rattle.exact_job.specs.Table.{AreInOneGroup, IsTableOf};
+ghost use Rattle.found_rays.specs.Lines.{pair_of_ray};
+ghost use Rattle.exact_job.specs.Table.{AreInOneGroup, IsTableOfGroups};
 
 use face_groups::Group;
 use reject_bits::Table;
@@ -49,8 +49,8 @@ fn set_own(marks: &mut Table, groups: &[Group])
 /// Sets the bits of each sector of the one group of a ray with each sector of the other, both ways, for each of these rays.
 fn set_joined(marks: &mut Table, groups: &[Group], rays: &[PairRay])
     requires below { AreOfSectors marks.old.n groups.now }
-    requires pairs { ArePairsBelow (length groups.now) (map pair_of rays.now) }
-    ensures { SetsMore (AreListedByGroups (map pair_of rays.now) groups.now) marks.old marks.new }
+    requires pairs { ArePairsBelow (length groups.now) (map pair_of_ray rays.now) }
+    ensures { SetsMore (AreListedByGroups (map pair_of_ray rays.now) groups.now) marks.old marks.new }
 {
     for i in 0..rays.len() {
         let from = groups[rays[i].pair.a as usize].as_slice();
@@ -68,9 +68,9 @@ pub fn table_of(
     rays: &[PairRay],
 ) -> Result<Table, Memory>
     requires below { AreOfSectors sectors groups.now }
-    requires pairs { ArePairsBelow (length groups.now) (map pair_of rays.now) }
+    requires pairs { ArePairsBelow (length groups.now) (map pair_of_ray rays.now) }
     ensures sectors { IfOk result (λ t. t.n ≡ sectors) }
-    ensures pairs { (c : PartsOf) → c.groups ≡ groups.now → c.rays ≡ rays.now → IfOk result (IsTableOf (as_two c)) }
+    ensures pairs { (c : PartsOf) → c.groups ≡ groups.now → c.rays ≡ rays.now → IfOk result (IsTableOfGroups (as_two c)) }
 {
     let mut seen = Table::clear(alloc, sectors)?;
     set_own(&mut seen, groups);

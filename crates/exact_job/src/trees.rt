@@ -4,8 +4,8 @@ ghost use Rattle.std.specs.Prelude.{◌≡◌, ◌*◌, ◌<◌, ◌≤◌, ℕ,
 ghost use Rattle.exact_checker.specs.Owning.{IsSized, owning_of};
 ghost use Rattle.gate_floods.specs.RowJudge.Masks.{rows_of};
 ghost use Rattle.row_trees.specs.Walkable.{Ground as GroundOf, IsWalkable};
-ghost use Rattle.found_rays.specs.Ground.{IsGround};
-ghost use Rattle.exact_job.specs.Trees.{AreWalks, AreWalksOf};
+ghost use Rattle.found_rays.specs.Ground.{IsRayGround};
+ghost use Rattle.exact_job.specs.Trees.{AreRowWalks, AreWalksOf};
 
 use crate::walk_tasks::OwnedWalks;
 use crate::walkers::Walkers;
@@ -44,9 +44,9 @@ pub fn make_trees<W: Walkers>(
     joined: &[Row],
 ) -> Result<Vec<Made>, Memory>
     requires can { W.can_walk walkers.now }
-    requires ground { IsGround over.now.plan over.now.mesh.triangles over.now.labels edges.now }
+    requires ground { IsRayGround over.now.plan over.now.mesh.triangles over.now.labels edges.now }
     requires rows { length joined.now ≡ over.now.plan.sectors }
-    ensures { IfOk result (λ v. AreWalks over.now.plan over.now.mesh.triangles edges.now joined.now v.items) }
+    ensures { IfOk result (λ v. AreRowWalks over.now.plan over.now.mesh.triangles edges.now joined.now v.items) }
 {
     let plan = &over.plan;
     let components = components(alloc, plan)?;

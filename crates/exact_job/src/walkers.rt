@@ -4,9 +4,9 @@ ghost use denote.Param.Send.{IsSync};
 ghost use Rattle.std.specs.Prelude.{◌≡◌, ℕ, ◌*◌, ◌<◌, ◌≤◌, Some, All, IfErr, IfOk, length, slice_get};
 ghost use Rattle.sight_names.specs.Map.{map_of};
 ghost use Rattle.sight_names.specs.Sound.{LinesMeetAtEnds};
-ghost use Rattle.group_job.specs.Built.{IsGroupFault};
+ghost use Rattle.group_job.specs.Built.{IsOpenFace};
 ghost use Rattle.group_job.specs.Grouped.{IsMapOfGroups};
-ghost use Rattle.task_crew.specs.Done.{AreDone};
+ghost use Rattle.task_crew.specs.Done.{AreTasksDone};
 ghost use Rattle.exact_checker.specs.Owning.{IsSized, owning_of};
 ghost use Rattle.gate_floods.specs.RowJudge.Masks.{rows_of};
 ghost use Rattle.row_trees.specs.Walkable.{Ground as GroundOf, IsWalkable};
@@ -33,7 +33,7 @@ pub trait Walkers: RayJudges + Searchers {
         requires can { can_walk self.now }
         requires audited { LinesMeetAtEnds (map_of plan.now) }
         ensures grouped { IfOk result (IsMapOfGroups plan.now) }
-        ensures fault { IfErr result (IsGroupFault (map_of plan.now)) };
+        ensures fault { IfErr result (IsOpenFace (map_of plan.now)) };
 
     /// What is made of each group's walk with what it owns.
     fn walk_owned(&self, alloc: Global, walks: &OwnedWalks<'_>) -> Result<Vec<Made>, Memory>
@@ -41,7 +41,7 @@ pub trait Walkers: RayJudges + Searchers {
         requires sized { IsSized (owning_of walks.now.known) }
         requires room { walks.now.known.count ≤ 64 * walks.now.masks.now.width }
         requires walkable { (g : GroundOf) × ((f : ℕ) → f < walks.now.known.count → IsWalkable g walks.now.terrain.now.edges.now walks.now.terrain.now.roots.now.roots.items walks.now.terrain.now.roots.now.first.items f) }
-        ensures { IfOk result (λ v. AreDone (IsOwnedWalk walks.now.terrain.now.edges.now (rows_of walks.now.masks.now) walks.now.terrain.now.roots.now.roots.items walks.now.terrain.now.roots.now.first.items (owning_of walks.now.known)) walks.now.known.count v.items) };
+        ensures { IfOk result (λ v. AreTasksDone (IsOwnedWalk walks.now.terrain.now.edges.now (rows_of walks.now.masks.now) walks.now.terrain.now.roots.now.roots.items walks.now.terrain.now.roots.now.first.items (owning_of walks.now.known)) walks.now.known.count v.items) };
 }
 
 impl Walkers for Alone {

@@ -20,7 +20,7 @@ use Rattle.face_groups.specs.declared.tri_sectors.sides.FacedSide.{FacedSide}
 use Rattle.face_groups.specs.TriSectors.Classes.{class_of}
 use Rattle.face_groups.specs.TriSectors.Sides.{AreFaced}
 use Rattle.face_groups.specs.declared.namings.Naming.{Naming}
-use Rattle.face_groups.specs.Namings.{NamingBefore, says, said_by, AreInOrder, IsNamedThere, AreNamings}
+use Rattle.face_groups.specs.Namings.{NamingBefore, naming, said_by, AreNamingsInOrder, IsNamedThere, AreNamings}
 
 -- ---- sorted and without repeats
 
@@ -42,7 +42,7 @@ ties_lex a b c d = grind arith
 same_lex : (a b c d : ℕ) → (a == b && c == d) ≡ true → (a ≡ b) × (c ≡ d)
 same_lex a b c d h = grind arith
 
-pub naming_of_numbers : (a b c d : ℕ) → a ≡ c → b ≡ d → says a b ≡ says c d
+pub naming_of_numbers : (a b c d : ℕ) → a ≡ c → b ≡ d → naming a b ≡ naming c d
 naming_of_numbers a b c d e f = cc
 
 same_naming : (n o : Naming) → naming_eq n o ≡ true → n ≡ o
@@ -56,10 +56,10 @@ ascend_later (x ∷ xs) h zero (suc j) n o lt p q = subst (λ (y : Naming). Nami
 ascend_later (x ∷ xs) h (suc i) zero n o lt p q = absurd (omega arith)
 ascend_later (x ∷ xs) h (suc i) (suc j) n o lt p q = ascend_later xs h.1 i j n o (omega arith) p q
 
-pub in_order_of : (all sorted left : List Naming) → IsPermutation all sorted → IsSorted naming_cmp sorted → IsFiltered (DiffersFromLast naming_eq) [] sorted left → AreInOrder all left
+pub in_order_of : (all sorted left : List Naming) → IsPermutation all sorted → IsSorted naming_cmp sorted → IsFiltered (DiffersFromLast naming_eq) [] sorted left → AreNamingsInOrder all left
 in_order_of all sorted left moved up kept =
     let is : left ≡ dedup naming_eq sorted = dedup_is naming_eq sorted left kept in
-    subst (AreInOrder all) (sym is) (record {
+    subst (AreNamingsInOrder all) (sym is) (record {
       ascend = ascend_later (dedup naming_eq sorted) (IsStrictlySortedBy-dedup naming_cmp_total (λ n o. ties_lex n.face o.face n.sector o.sector) sorted up);
       exactly = λ n. (
         λ c. Contains-permutation sorted all n (IsPermutation-sym all sorted moved) (Contains-from_dedup naming_eq sorted n c),
@@ -102,32 +102,32 @@ of_said (x ∷ ss) (suc i) s n at e = go (said_by x) (of_said ss i s n at e)
     go (Some y) c = contains_there n y (filter_map said_by ss) c
 
 -- the sector that a side names, of what it says, and back
-said_sector : (s : FacedSide) (face sector : ℕ) → said_by s ≡ Some (says face sector) → (s.face ≡ face) × (s.sector ≡ Some sector)
+said_sector : (s : FacedSide) (face sector : ℕ) → said_by s ≡ Some (naming face sector) → (s.face ≡ face) × (s.sector ≡ Some sector)
 said_sector s face sector e = go s.sector refl e
   where
-    go : (o : Option ℕ) → s.sector ≡ o → said_by s ≡ Some (says face sector) → (s.face ≡ face) × (s.sector ≡ Some sector)
-    go None is said = absurd (none-some (says face sector) (sym (ap (λ (p : Option ℕ). option_map (λ a. says s.face a) p) is) ∙ said))
+    go : (o : Option ℕ) → s.sector ≡ o → said_by s ≡ Some (naming face sector) → (s.face ≡ face) × (s.sector ≡ Some sector)
+    go None is said = absurd (none-some (naming face sector) (sym (ap (λ (p : Option ℕ). option_map (λ a. naming s.face a) p) is) ∙ said))
     go (Some a) is said =
-        let same : says s.face a ≡ says face sector = same_Some (says s.face a) (says face sector) (sym (ap (λ (p : Option ℕ). option_map (λ b. says s.face b) p) is) ∙ said) in
+        let same : naming s.face a ≡ naming face sector = same_Some (naming s.face a) (naming face sector) (sym (ap (λ (p : Option ℕ). option_map (λ b. naming s.face b) p) is) ∙ said) in
         (ap (λ (n : Naming). n.face) same, is ∙ ap (λ (n : Naming). Some n.sector) same)
 
-sector_said : (s : FacedSide) (face sector : ℕ) → s.face ≡ face → s.sector ≡ Some sector → said_by s ≡ Some (says face sector)
-sector_said s face sector f e = ap (λ (p : Option ℕ). option_map (λ a. says s.face a) p) e ∙ ap (λ (x : ℕ). Some (says x sector)) f
+sector_said : (s : FacedSide) (face sector : ℕ) → s.face ≡ face → s.sector ≡ Some sector → said_by s ≡ Some (naming face sector)
+sector_said s face sector f e = ap (λ (p : Option ℕ). option_map (λ a. naming s.face a) p) e ∙ ap (λ (x : ℕ). Some (naming x sector)) f
 
-pub namings_are : (m : Map) (ts : List Triangle) (fs : List ℕ) (ss : List FacedSide) (ns : List Naming) → AreFaced m ts fs ss → AreInOrder (filter_map said_by ss) ns → AreNamings m ts fs ns
-namings_are m ts fs ss ns faced order = record { ascend = order.ascend; exactly = λ face sector. (λ c. there face sector (said_of ss (says face sector) ((order.exactly (says face sector)).0 c)), λ h. (order.exactly (says face sector)).1 (back face sector h)) }
+pub namings_are : (m : Map) (ts : List Triangle) (fs : List ℕ) (ss : List FacedSide) (ns : List Naming) → AreFaced m ts fs ss → AreNamingsInOrder (filter_map said_by ss) ns → AreNamings m ts fs ns
+namings_are m ts fs ss ns faced order = record { ascend = order.ascend; exactly = λ face sector. (λ c. there face sector (said_of ss (naming face sector) ((order.exactly (naming face sector)).0 c)), λ h. (order.exactly (naming face sector)).1 (back face sector h)) }
   where
-    there : (face sector : ℕ) → IsSaid ss (says face sector) → IsNamedThere m ts fs face sector
+    there : (face sector : ℕ) → IsSaid ss (naming face sector) → IsNamedThere m ts fs face sector
     there face sector h =
         let f = (faced.each h.one.0 h.s (get_of_contains ss h.s h.one.0 h.one.1 h.one.2)).0 in
         let w = said_sector h.s face sector h.said in
         record { side = h.s.side; line = f.line; is = f.is; names = sym f.sector ∙ w.1; j = f.k; at = f.at; there = sym w.0 ∙ f.face }
 
-    back : (face sector : ℕ) → IsNamedThere m ts fs face sector → Contains (filter_map said_by ss) (says face sector)
+    back : (face sector : ℕ) → IsNamedThere m ts fs face sector → Contains (filter_map said_by ss) (naming face sector)
     back face sector h =
         let w = faced.all h.side h.line h.j tt h.is h.at in
         let f = (faced.each w.0 w.1 w.2).0 in
         let line : f.line ≡ h.line = same_Some f.line h.line (sym f.is ∙ ap (λ (s : Side). line_at m s.line) w.3 ∙ h.is) in
         let at : triangle_at ts (side_edge m h.line h.side.left) ≡ Some f.k = subst (λ (s : Side). triangle_at ts (side_edge m h.line s.left) ≡ Some f.k) w.3 (subst (λ (l : MapLine). triangle_at ts (side_edge m l w.1.side.left) ≡ Some f.k) line f.at) in
         let same : f.k ≡ h.j = same_Some f.k h.j (sym at ∙ h.at) in
-        of_said ss w.0 w.1 (says face sector) w.2 (sector_said w.1 face sector (f.face ∙ ap (class_of fs) same ∙ sym h.there) (f.sector ∙ ap (named m) w.3 ∙ h.names))
+        of_said ss w.0 w.1 (naming face sector) w.2 (sector_said w.1 face sector (f.face ∙ ap (class_of fs) same ∙ sym h.there) (f.sector ∙ ap (named m) w.3 ∙ h.names))

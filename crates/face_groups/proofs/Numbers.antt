@@ -14,7 +14,7 @@ use Rattle.face_groups.proofs.TriSectors.GoodLabels.{label_name, label_within}
 use Rattle.face_groups.specs.declared.namings.Naming.{Naming}
 use Rattle.face_groups.specs.declared.named_faces.NamedFace.{NamedFace}
 use Rattle.face_groups.specs.Namings.{AreSectorsOn, AreOnFaces}
-use Rattle.face_groups.specs.NamedFaces.{AreNamedFaces, RiseAsLists, IsLast, IsPutBehind, IsPlaceOf, AreNumbered, AreListLabels}
+use Rattle.face_groups.specs.NamedFaces.{AreNamedFaces, RiseAsLists, IsLast, IsPutBehind, IsPlaceOfFace, AreNumbered, AreListLabels}
 use Rattle.face_groups.proofs.Runs.{one_list}
 
 -- ---- one list more
@@ -90,8 +90,8 @@ module _ (done : List NamedFace) (f : NamedFace) (late : (g : NamedFace) → Con
         | inr e ↦ (f, this, e.1)
       ]
 
-  given_more : (face p : ℕ) → slice_index_or (set places f.face (Some (length new - 1))) face None ≡ Some p → IsPlaceOf (done ++ f ∷ []) new face p
-  given_more face p e = elim (same_or_not face f.face) as (λ _. IsPlaceOf (done ++ f ∷ []) new face p) [
+  given_more : (face p : ℕ) → slice_index_or (set places f.face (Some (length new - 1))) face None ≡ Some p → IsPlaceOfFace (done ++ f ∷ []) new face p
+  given_more face p e = elim (same_or_not face f.face) as (λ _. IsPlaceOfFace (done ++ f ∷ []) new face p) [
     | inl same ↦
         let q : length new - 1 ≡ p = same_Some (length new - 1) p (sym (get_or-set_same places f.face (Some (length new - 1)) None lt) ∙ ap (λ (k : ℕ). slice_index_or (set places f.face (Some (length new - 1))) k None) (sym same) ∙ e) in
         record { f = f; one = this; is = sym same; there = ap (slice_get new) (sym q) ∙ put_last f.sectors.items old new put }
@@ -146,10 +146,10 @@ labels_are ns fs n named groups places ls count range on few faces numbered labe
     within : (k p : ℕ) → label_of ls k ≡ Some p → k < length fs
     within k p e = let l = label_within ls k p e in let o = labelled.one_each in omega (arith, l, o)
 
-    place_of : (k p : ℕ) → label_of ls k ≡ Some p → IsPlaceOf named groups (class_of fs k) p
+    place_of : (k p : ℕ) → label_of ls k ≡ Some p → IsPlaceOfFace named groups (class_of fs k) p
     place_of k p e = numbered.given (class_of fs k) p (sym (label_name fs places ls k labelled (within k p e)) ∙ e)
 
-    list_of : (face p : ℕ) → IsPlaceOf named groups face p → (xs : List ℕ) → AreSectorsOn ns face xs → slice_get groups p ≡ Some xs
+    list_of : (face p : ℕ) → IsPlaceOfFace named groups face p → (xs : List ℕ) → AreSectorsOn ns face xs → slice_get groups p ≡ Some xs
     list_of face p w xs there =
         let x = faces.each w.f w.one in
         w.there ∙ ap (λ (ys : List ℕ). Some ys) (one_list ns face w.f.sectors.items xs (subst (λ (k : ℕ). AreSectorsOn ns k w.f.sectors.items) w.is x.sectors) there)

@@ -11,19 +11,19 @@ use Rattle.sight_names.proofs.Lists.{get_of_contains, contains_of_get}
 use Rattle.face_groups.proofs.GroupsBase.Ordered.{contains_at, ascending_same}
 use Rattle.face_groups.specs.declared.namings.Naming.{Naming}
 use Rattle.face_groups.specs.TriSectors.Classes.{class_of}
-use Rattle.face_groups.specs.Namings.{NamingBefore, says, IsStart, IsRunOf, AreSectorsOn}
+use Rattle.face_groups.specs.Namings.{NamingBefore, naming, IsNamingStart, IsRunOf, AreSectorsOn}
 use Rattle.face_groups.proofs.NamingOrder.{naming_of_numbers}
 
 -- ---- where a face begins
 
-pub start_at : (ns : List Naming) (face i : ℕ) → i ≤ length ns → IsPartitionPoint (λ (n : Naming). ltb n.face face ≡ true) (λ (n : Naming). ltb n.face face ≡ false) ns i → IsStart ns face i
+pub start_at : (ns : List Naming) (face i : ℕ) → i ≤ length ns → IsPartitionPoint (λ (n : Naming). ltb n.face face ≡ true) (λ (n : Naming). ltb n.face face ≡ false) ns i → IsNamingStart ns face i
 start_at ns face i le point = record {
   within = le;
   before = λ k n lt at. subst (λ (o : Naming). o.face < face) (get_or_from_slice_get ns k n n at) (ltb-true _ face (point.0 k n (omega arith) lt));
   from = λ k n ge at. subst (λ (o : Naming). face ≤ o.face) (get_or_from_slice_get ns k n n at) (ltb-false _ face (point.1 k n ge (slice_get_within ns k n at)));
 }
 
-pub start_order : (ns : List Naming) (face i j : ℕ) → IsStart ns face i → IsStart ns (face + 1) j → i ≤ j
+pub start_order : (ns : List Naming) (face i j : ℕ) → IsNamingStart ns face i → IsNamingStart ns (face + 1) j → i ≤ j
 start_order ns face i j s t = elim (below_or_not j i) as (λ _. i ≤ j) [
   | inr le ↦ le
   | inl lt ↦
@@ -41,7 +41,7 @@ get_dropped zero xs k = let e : k ≡ 0 + k = omega arith in ap (slice_get xs) e
 get_dropped (suc n) [] k = refl
 get_dropped (suc n) (x ∷ xs) k = let e : suc (n + k) ≡ suc n + k = omega arith in get_dropped n xs k ∙ ap (slice_get (x ∷ xs)) e
 
-pub run_between : (ns : List Naming) (face i j : ℕ) → Ascends NamingBefore ns → IsStart ns face i → IsStart ns (face + 1) j → IsRunOf ns face (take (j - i) (drop i ns))
+pub run_between : (ns : List Naming) (face i j : ℕ) → Ascends NamingBefore ns → IsNamingStart ns face i → IsNamingStart ns (face + 1) j → IsRunOf ns face (take (j - i) (drop i ns))
 run_between ns face i j up s t = record { ascend = λ a b n o lt p q. ascend a b n o lt p q; exactly = λ n. (there n, back n) }
   where
     at : (k : ℕ) (n : Naming) → slice_get (take (j - i) (drop i ns)) k ≡ Some n → slice_get ns (i + k) ≡ Some n
@@ -88,7 +88,7 @@ mapped_at run k a e = go (slice_get run k) refl (sym (slice_get-map (λ (n : Nam
 pub run_sectors : (ns : List Naming) (face : ℕ) (run : List Naming) → IsRunOf ns face run → AreSectorsOn ns face (map (λ (n : Naming). n.sector) run)
 run_sectors ns face run r = record {
   ascend = λ i j x y lt p q. ascend i j x y lt p q;
-  exactly = λ a. (there a, λ c. contains_map (λ (n : Naming). n.sector) run (says face a) ((r.exactly (says face a)).1 (c, refl)));
+  exactly = λ a. (there a, λ c. contains_map (λ (n : Naming). n.sector) run (naming face a) ((r.exactly (naming face a)).1 (c, refl)));
 }
   where
     on_face : (k : ℕ) (n : Naming) → slice_get run k ≡ Some n → Contains ns n × (n.face ≡ face)
@@ -104,7 +104,7 @@ run_sectors ns face run r = record {
         go n o ex ey fn fo (inl less) = absurd (omega (arith, fn, fo, less))
         go n o ex ey fn fo (inr h) = let less = h.1 in omega (arith, ex, ey, less)
 
-    there : (a : ℕ) → Contains (map (λ (n : Naming). n.sector) run) a → Contains ns (says face a)
+    there : (a : ℕ) → Contains (map (λ (n : Naming). n.sector) run) a → Contains ns (naming face a)
     there a c =
         let p = contains_at (map (λ (n : Naming). n.sector) run) a c in
         let n = mapped_at run p.0 a p.1 in

@@ -26,19 +26,19 @@ use Rattle.face_groups.specs.declared.namings.Naming.{Naming}
 use Rattle.face_groups.specs.declared.fault.GroupFault.{GroupFault}
 use Rattle.face_groups.specs.declared.fault.GroupFault.TheVariants.{Open, Memory}
 use Rattle.face_groups.specs.declared.grouping.Grouped.{Grouped}
-use Rattle.face_groups.specs.Namings.{says, AreNamings, AreSectorsOn, AreListsOn, AreOnFaces}
+use Rattle.face_groups.specs.Namings.{naming, AreNamings, AreSectorsOn, AreListsOn, AreOnFaces}
 use Rattle.face_groups.specs.GroupsBase.Found.{AreFoundGroups}
 use Rattle.face_groups.specs.NamedFaces.{AreListLabels}
 use Rattle.face_groups.specs.Regrouped.{regrouped_plan}
-use Rattle.face_groups.specs.Verdict.{AreFaceNames, IsFacesVerdict, IsGroupsVerdict}
+use Rattle.face_groups.specs.Verdict.{AreFaceNames, IsGroupedVerdict, IsGroupsVerdict}
 use Rattle.face_groups.proofs.RegroupedPlan.{names_the_labels}
 
 module _ (m : Map) (ts : List Triangle) (fs : List ℕ) (ns : List Naming) (are : AreNamings m ts fs ns) where
   -- what sides name on the face of triangle k, in the two spellings
-  named_of_said : (k a : ℕ) → Contains ns (says (class_of fs k) a) → HasNamedSide m ts fs k a
+  named_of_said : (k a : ℕ) → Contains ns (naming (class_of fs k) a) → HasNamedSide m ts fs k a
   named_of_said k a c = let h = (are.exactly (class_of fs k) a).0 c in record { side = h.side; line = h.line; is = h.is; names = h.names; j = h.j; at = h.at; face = h.there }
 
-  said_of_named : (k a : ℕ) → HasNamedSide m ts fs k a → Contains ns (says (class_of fs k) a)
+  said_of_named : (k a : ℕ) → HasNamedSide m ts fs k a → Contains ns (naming (class_of fs k) a)
   said_of_named k a h = (are.exactly (class_of fs k) a).1 (record { side = h.side; line = h.line; is = h.is; names = h.names; j = h.j; at = h.at; there = h.face })
 
   named_of_sectors : (k : ℕ) (names : List ℕ) → AreSectorsOn ns (class_of fs k) names → AreNamedOn m ts fs k names
@@ -94,7 +94,7 @@ module _ (p : PlanParts) (is : IsPlan p) (ts : List Triangle) (fs : List ℕ) (o
   count : length fs ≡ length ts
   count = marked.are_faces.one_each
 
-  pub groups_answer : IsPlainMesh (map_of p) ts → FillsSides (map_of p) ts → (r : Result Grouped GroupFault) → IsFacesVerdict p ts fs os r → IsGroupsVerdict (map_of p) ts r
+  pub groups_answer : IsPlainMesh (map_of p) ts → FillsSides (map_of p) ts → (r : Result Grouped GroupFault) → IsGroupedVerdict p ts fs os r → IsGroupsVerdict (map_of p) ts r
   groups_answer plain filled (Err (Open s)) v = open_verdict (map_of p) ts fs os (plan_facts p is) plain filled marked s v
   groups_answer plain filled (Err (Memory _)) v = tt
   groups_answer plain filled (Ok g) v =

@@ -40,7 +40,7 @@ abbrev pub IsPutBehind : List ℕ → List (List ℕ) → List (List ℕ) → Ty
 IsPutBehind sectors old new = (IsLast old sectors × (new ≡ old)) ⊎ (¬ IsLast old sectors × (new ≡ old ++ sectors ∷ []))
 
 -- the face has this place, and its list stands there
-pub record IsPlaceOf (named : List NamedFace) (groups : List (List ℕ)) (face place : ℕ) : Type 0 where
+pub record IsPlaceOfFace (named : List NamedFace) (groups : List (List ℕ)) (face place : ℕ) : Type 0 where
   pub f : NamedFace
   pub one : Contains named f
   pub is : f.face ≡ face
@@ -51,7 +51,7 @@ pub record AreNumbered (named : List NamedFace) (groups : List (List ℕ)) (plac
   pub ascend : AscendAsLists groups
   pub few : length groups ≤ length named
   pub each : (p : ℕ) (sectors : List ℕ) → slice_get groups p ≡ Some sectors → (f : NamedFace) × Contains named f × (f.sectors.items ≡ sectors)
-  pub given : (face p : ℕ) → slice_index_or places face None ≡ Some p → IsPlaceOf named groups face p
+  pub given : (face p : ℕ) → slice_index_or places face None ≡ Some p → IsPlaceOfFace named groups face p
   pub all : (f : NamedFace) → Contains named f → (p : ℕ) × (slice_index_or places f.face None ≡ Some p)
 
 -- the groups are the lists of the faces in order, each once, without the empty one; the label of each triangle is the

@@ -14,15 +14,15 @@ use Rattle.face_groups.specs.declared.namings.Naming.{Naming}
 abbrev pub NamingBefore : Naming → Naming → Type 0
 NamingBefore n o = (n.face < o.face) ⊎ ((n.face ≡ o.face) × (n.sector < o.sector))
 
-abbrev pub says : ℕ → ℕ → Naming
-says face sector = record { face = face; sector = sector }
+abbrev pub naming : ℕ → ℕ → Naming
+naming face sector = record { face = face; sector = sector }
 
 -- what a side says of its face, if it names a sector
 abbrev pub said_by : FacedSide → Option Naming
-said_by s = option_map (λ a. says s.face a) s.sector
+said_by s = option_map (λ a. naming s.face a) s.sector
 
 -- the same namings, each once, in order
-pub record AreInOrder (all left : List Naming) : Type 0 where
+pub record AreNamingsInOrder (all left : List Naming) : Type 0 where
   pub ascend : Ascends NamingBefore left
   pub exactly : (n : Naming) → Contains left n ↔ Contains all n
 
@@ -39,10 +39,10 @@ pub record IsNamedThere (m : Map) (ts : List Triangle) (fs : List ℕ) (face sec
 -- what all sides say of the faces, in order, each once
 pub record AreNamings (m : Map) (ts : List Triangle) (fs : List ℕ) (ns : List Naming) : Type 0 where
   pub ascend : Ascends NamingBefore ns
-  pub exactly : (face sector : ℕ) → Contains ns (says face sector) ↔ IsNamedThere m ts fs face sector
+  pub exactly : (face sector : ℕ) → Contains ns (naming face sector) ↔ IsNamedThere m ts fs face sector
 
 -- the place of the first naming of the face or of a later one
-pub record IsStart (ns : List Naming) (face i : ℕ) : Type 0 where
+pub record IsNamingStart (ns : List Naming) (face i : ℕ) : Type 0 where
   pub within : i ≤ length ns
   pub before : (k : ℕ) (n : Naming) → k < i → slice_get ns k ≡ Some n → n.face < face
   pub from : (k : ℕ) (n : Naming) → i ≤ k → slice_get ns k ≡ Some n → face ≤ n.face
@@ -55,7 +55,7 @@ pub record IsRunOf (ns : List Naming) (face : ℕ) (run : List Naming) : Type 0 
 -- the ascending list of the sectors that are named on the face
 pub record AreSectorsOn (ns : List Naming) (face : ℕ) (sectors : List ℕ) : Type 0 where
   pub ascend : AscendStrictly sectors
-  pub exactly : (a : ℕ) → Contains sectors a ↔ Contains ns (says face a)
+  pub exactly : (a : ℕ) → Contains sectors a ↔ Contains ns (naming face a)
 
 -- the list of each triangle's face
 pub record AreListsOn (ns : List Naming) (fs : List ℕ) (lists : List (List ℕ)) : Type 0 where
@@ -68,4 +68,4 @@ pub record IsFaceNumber (fs : List ℕ) (face : ℕ) : Type 0 where
   pub own : class_of fs face ≡ face
 
 abbrev pub AreOnFaces : List ℕ → List Naming → Type 0
-AreOnFaces fs ns = (face sector : ℕ) → Contains ns (says face sector) → IsFaceNumber fs face
+AreOnFaces fs ns = (face sector : ℕ) → Contains ns (naming face sector) → IsFaceNumber fs face

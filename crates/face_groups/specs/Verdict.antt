@@ -38,7 +38,7 @@ pub record AreGroupsOf (p : PlanParts) (ts : List Triangle) (fs : List ℕ) (os 
   pub labels : AreListLabels namings fs g.groups g.labels
   pub plan : g.plan ≡ regrouped_plan ts g.labels (length g.groups) p
 
-abbrev pub IsFacesVerdict : PlanParts → List Triangle → List ℕ → List Bool → Result Grouped GroupFault → Type 0
-IsFacesVerdict p ts fs os (Ok g) = AreGroupsOf p ts fs os g
-IsFacesVerdict p ts fs os (Err (Open s)) = IsFirstSideAgainst (IsSealedAt (map_of p) ts fs os) s
-IsFacesVerdict p ts fs os (Err (Memory _)) = Unit {0}
+abbrev pub IsGroupedVerdict : PlanParts → List Triangle → List ℕ → List Bool → Result Grouped GroupFault → Type 0
+IsGroupedVerdict p ts fs os (Ok g) = AreGroupsOf p ts fs os g
+IsGroupedVerdict p ts fs os (Err (Open s)) = IsFirstSideAgainst (IsSealedAt (map_of p) ts fs os) s
+IsGroupedVerdict p ts fs os (Err (Memory _)) = Unit {0}

@@ -7,7 +7,7 @@ ghost use Rattle.sight_names.specs.Plan.{IsPlan};
 ghost use Rattle.mesh_shape.specs.Fills.{FillsSides};
 ghost use Rattle.face_groups.specs.TriSectors.Classes.{IsBelow};
 ghost use Rattle.face_groups.specs.TriSectors.Faces.{AreMarkedFaces};
-ghost use Rattle.face_groups.specs.Verdict.{IsFacesVerdict, IsGroupsVerdict};
+ghost use Rattle.face_groups.specs.Verdict.{IsGroupedVerdict, IsGroupsVerdict};
 
 use crate::fault::GroupFault;
 use crate::lists::Group;
@@ -58,7 +58,7 @@ fn group_faces(
     requires marked { AreMarkedFaces (map_of plan.now) mesh.now.triangles faces.now marks.now }
     requires range { All (IsBelow (length mesh.now.triangles)) faces.now }
     ensures plan { IsPlan plan.now }
-    ensures verdict { IsFacesVerdict plan.now mesh.now.triangles faces.now marks.now result }
+    ensures verdict { IsGroupedVerdict plan.now mesh.now.triangles faces.now marks.now result }
 {
     if let Some(side) = first_open(plan, mesh, faces, marks) {
         return Err(GroupFault::Open { side });

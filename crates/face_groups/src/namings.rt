@@ -6,7 +6,7 @@ ghost use Rattle.sight_names.specs.Map.{map_of};
 ghost use Rattle.sight_names.specs.Order.{Ascends};
 ghost use Rattle.face_groups.specs.TriSectors.Classes.{IsBelow};
 ghost use Rattle.face_groups.specs.declared.namings.Naming.{Naming};
-ghost use Rattle.face_groups.specs.Namings.{said_by, NamingBefore, AreInOrder, AreNamings, AreSectorsOn, IsRunOf, IsStart};
+ghost use Rattle.face_groups.specs.Namings.{said_by, NamingBefore, AreNamingsInOrder, AreNamings, AreSectorsOn, IsRunOf, IsNamingStart};
 
 use crate::short_list::FewNumbers;
 use crate::tri_sectors::sides::{FacedSide, faced_sides};
@@ -45,7 +45,7 @@ fn all_namings(alloc: Global, sides: &[FacedSide]) -> Result<Vec<Naming>, Memory
 
 /// The namings in order, each once.
 fn in_order(all: Vec<Naming>) -> Vec<Naming>
-    ensures { AreInOrder all.items result.items }
+    ensures { AreNamingsInOrder all.items result.items }
 {
     let mut namings = all;
     namings.sort_unstable();
@@ -72,7 +72,7 @@ pub fn namings_of(
 /// The place of the first naming of this face or of a later one.
 fn start_of(namings: &[Naming], face: u32) -> usize
     requires { IsNonDecreasingBy (λ (n : Naming). n.face) namings.now }
-    ensures { IsStart namings.now face result }
+    ensures { IsNamingStart namings.now face result }
 {
     namings.partition_point(|naming| (naming.face as u32) < face)
 }

@@ -12,10 +12,10 @@ use Rattle.mesh_shape.specs.HalfEdges.Numbers.{edge}
 use Rattle.mesh_shape.specs.HalfEdges.Kinds.{portal_on}
 use Rattle.map_faults.specs.declared.tears.Tear.{Tear}
 use Rattle.map_faults.specs.EdgeSides.{side_by}
-use Rattle.map_faults.specs.Tears.{DoesName, IsBorder, IsTear, IsTurn, IsTurnWithin}
+use Rattle.map_faults.specs.Tears.{DoesName, IsBorder, IsTear, TurnsRound, IsTurnWithin}
 use Rattle.map_faults.proofs.OneOfEach.{one_way, turn_too}
 use Rattle.map_picture.specs.declared.arrows.Arrow.{Arrow}
-use Rattle.fault_marks.specs.Arrows.{AddsArrows, AreArrowsAt, AreArrowsOf, arrow, arrows_round}
+use Rattle.fault_marks.specs.Arrows.{AddsArrows, AreArrowsAt, AreArrowsOf, arrow_round, arrows_round}
 
 -- ---- one turn
 
@@ -23,47 +23,47 @@ module _ (ts : List Triangle) (ss : List (Option Side)) (point w : ℕ) where
   -- behind the arrows that there are these are left, and all together are these
   pub record IsLeft (x n : ℕ) (all ws : List Arrow) : Type 0 where
     pub rest : List ℕ
-    pub turn : IsTurn ts ss point x rest w
+    pub turn : TurnsRound ts ss point x rest w
     pub short : length rest + n < length ts
     pub joined : ws ++ arrows_round point x rest w ≡ all
 
   pub all_left : (x : ℕ) (ys : List ℕ) (old : List Arrow) → IsTurnWithin ts ss point x ys w → IsLeft x 0 (old ++ arrows_round point x ys w) old
   all_left x ys old h = record { rest = ys; turn = h.0; short = let lt = h.1 in omega arith; joined = refl }
 
-  border_at_end : (x : ℕ) (ys : List ℕ) → IsTurn ts ss point x ys w → IsBorder ts ss (edge point w)
+  border_at_end : (x : ℕ) (ys : List ℕ) → TurnsRound ts ss point x ys w → IsBorder ts ss (edge point w)
   border_at_end x [] h = h.1
   border_at_end x (y ∷ ys) h = border_at_end y ys h.2
 
   pub never_out : (x n : ℕ) (all ws : List Arrow) → IsLeft x n all ws → apex ts (portal_on (edge x point)) ≡ None → ⊥
   never_out x n all ws h at = go h.rest h.turn
     where
-      go : (rest : List ℕ) → IsTurn ts ss point x rest w → ⊥
+      go : (rest : List ℕ) → TurnsRound ts ss point x rest w → ⊥
       go [] turn = none-some w (sym at ∙ turn.0)
       go (y ∷ rest) turn = none-some y (sym at ∙ turn.0)
 
   pub never_long : (x n : ℕ) (all ws : List Arrow) → IsLeft x n all ws → length ts ≤ n → ⊥
   never_long x n all ws h past = let lt = h.short in omega arith
 
-  pub one_less : (x n z : ℕ) (all ws new : List Arrow) → IsLeft x n all ws → apex ts (portal_on (edge x point)) ≡ Some z → z ≢ w → new ≡ ws ++ arrow x point z ∷ [] → IsLeft z (n + 1) all new
+  pub one_less : (x n z : ℕ) (all ws new : List Arrow) → IsLeft x n all ws → apex ts (portal_on (edge x point)) ≡ Some z → z ≢ w → new ≡ ws ++ arrow_round x point z ∷ [] → IsLeft z (n + 1) all new
   one_less x n z all ws new h at other made = go h.rest h.turn h.short h.joined
     where
-      go : (rest : List ℕ) → IsTurn ts ss point x rest w → length rest + n < length ts → ws ++ arrows_round point x rest w ≡ all → IsLeft z (n + 1) all new
+      go : (rest : List ℕ) → TurnsRound ts ss point x rest w → length rest + n < length ts → ws ++ arrows_round point x rest w ≡ all → IsLeft z (n + 1) all new
       go [] turn short joined = absurd (other (same_Some z w (sym at ∙ turn.0)))
       go (y ∷ rest) turn short joined =
           let e : y ≡ z = same_Some y z (sym turn.0 ∙ at) in
           record {
             rest = rest;
-            turn = subst (λ (u : ℕ). IsTurn ts ss point u rest w) e turn.2;
+            turn = subst (λ (u : ℕ). TurnsRound ts ss point u rest w) e turn.2;
             short = omega arith;
-            joined = ap (λ (l : List Arrow). l ++ arrows_round point z rest w) made ∙ append_assoc ws (arrow x point z ∷ []) (arrows_round point z rest w)
-                ∙ ap (λ (u : ℕ). ws ++ arrow x point u ∷ arrows_round point u rest w) (sym e) ∙ joined;
+            joined = ap (λ (l : List Arrow). l ++ arrows_round point z rest w) made ∙ append_assoc ws (arrow_round x point z ∷ []) (arrows_round point z rest w)
+                ∙ ap (λ (u : ℕ). ws ++ arrow_round x point u ∷ arrows_round point u rest w) (sym e) ∙ joined;
           }
 
-  pub none_left : (x n z : ℕ) (all ws new : List Arrow) → IsLeft x n all ws → apex ts (portal_on (edge x point)) ≡ Some z → z ≡ w → new ≡ ws ++ arrow x point z ∷ [] → new ≡ all
+  pub none_left : (x n z : ℕ) (all ws new : List Arrow) → IsLeft x n all ws → apex ts (portal_on (edge x point)) ≡ Some z → z ≡ w → new ≡ ws ++ arrow_round x point z ∷ [] → new ≡ all
   none_left x n z all ws new h at same made = go h.rest h.turn h.joined
     where
-      go : (rest : List ℕ) → IsTurn ts ss point x rest w → ws ++ arrows_round point x rest w ≡ all → new ≡ all
-      go [] turn joined = made ∙ ap (λ (u : ℕ). ws ++ arrow x point u ∷ []) same ∙ joined
+      go : (rest : List ℕ) → TurnsRound ts ss point x rest w → ws ++ arrows_round point x rest w ≡ all → new ≡ all
+      go [] turn joined = made ∙ ap (λ (u : ℕ). ws ++ arrow_round x point u ∷ []) same ∙ joined
       go (y ∷ rest) turn joined = absurd (turn.1 (subst (λ (u : ℕ). IsBorder ts ss (edge point u)) (sym same ∙ same_Some z y (sym at ∙ turn.0)) (border_at_end y rest turn.2)))
 
 -- ---- corner after corner

@@ -14,7 +14,7 @@ use Rattle.sight_names.proofs.OneMesh.{one_mesh}
 use Rattle.sight_names.proofs.OnePlan.{one_plan}
 use Rattle.sight_names.proofs.PlanMap.{line_of_plan}
 use Rattle.mesh_shape.specs.HalfEdges.Kinds.{portal_on}
-use Rattle.mesh_shape.specs.HalfEdges.Numbers.{number_of}
+use Rattle.mesh_shape.specs.HalfEdges.Numbers.{half_edge_number}
 use Rattle.face_groups.proofs.TriSectors.SideLemmas.{edge_of_side, side_is}
 use Rattle.portal_walk.proofs.Alone.{one_record}
 use Rattle.map_faults.specs.declared.clashes.LinePair.{LinePair}
@@ -106,9 +106,9 @@ module _ (p : PlanParts) (plan : IsPlan p) (ends : LinesMeetAtEnds (map_of p)) w
   at_number ss n = option_and_then (λ i. option_and_then (λ (o : Option Side). o) (slice_get ss i)) n
 
   same_sides : (ts : List Triangle) (ss us : List (Option Side)) → AreEdgeSides (map_of p) ts ss → AreEdgeSides (map_of p) ts us → (e : Edge) → side_by ts ss e ≡ side_by ts us e
-  same_sides ts ss us h k e = go (number_of ts e) refl
+  same_sides ts ss us h k e = go (half_edge_number ts e) refl
     where
-      go : (n : Option ℕ) → number_of ts e ≡ n → at_number ss (number_of ts e) ≡ at_number us (number_of ts e)
+      go : (n : Option ℕ) → half_edge_number ts e ≡ n → at_number ss (half_edge_number ts e) ≡ at_number us (half_edge_number ts e)
       go None q = ap (at_number ss) q ∙ sym (ap (at_number us) q)
       go (Some i) q =
           let a = h.each e i q in

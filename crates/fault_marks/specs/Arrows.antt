@@ -6,20 +6,20 @@ use Rattle.sight_names.specs.Map.{Map, map_of}
 use Rattle.sight_names.specs.Plan.{PlanParts}
 use Rattle.map_faults.specs.declared.tears.Tear.{Tear}
 use Rattle.map_faults.specs.EdgeSides.{AreEdgeSides}
-use Rattle.map_faults.specs.Tears.{AreTearsBy, DoesName, IsTurn}
+use Rattle.map_faults.specs.Tears.{AreTearsBy, DoesName, TurnsRound}
 use Rattle.map_picture.specs.declared.arrows.Arrow.{Arrow}
 
-abbrev pub arrow : ℕ → ℕ → ℕ → Arrow
-arrow x point y = record { from = x; point = point; to = y }
+abbrev pub arrow_round : ℕ → ℕ → ℕ → Arrow
+arrow_round x point y = record { from = x; point = point; to = y }
 
 -- one for each triangle that one passes who turns round the point from x across the edges to these points, and comes to w
 abbrev pub arrows_round : ℕ → ℕ → List ℕ → ℕ → List Arrow
-arrows_round point x [] w = arrow x point w ∷ []
-arrows_round point x (y ∷ ys) w = arrow x point y ∷ arrows_round point y ys w
+arrows_round point x [] w = arrow_round x point w ∷ []
+arrows_round point x (y ∷ ys) w = arrow_round x point y ∷ arrows_round point y ys w
 
 -- of a corner at a side that names a sector those of the turn, which crosses no line; of another one none
 abbrev pub AreArrowsAt : Map → List Triangle → List (Option Side) → Tear → List Arrow → Type 0
-AreArrowsAt m ts ss t ws = (DoesName m (Some t.side) × ((ys : List ℕ) × IsTurn ts ss t.point t.from ys t.to × (ws ≡ arrows_round t.point t.from ys t.to)))
+AreArrowsAt m ts ss t ws = (DoesName m (Some t.side) × ((ys : List ℕ) × TurnsRound ts ss t.point t.from ys t.to × (ws ≡ arrows_round t.point t.from ys t.to)))
     ⊎ ((¬ DoesName m (Some t.side)) × (ws ≡ []))
 
 abbrev pub AddsArrows : Map → List Triangle → List (Option Side) → Tear → List Arrow → List Arrow → Type 0

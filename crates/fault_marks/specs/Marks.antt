@@ -6,11 +6,11 @@ use Rattle.sight_names.specs.declared.names.Triangle.{Triangle}
 use Rattle.sight_names.specs.Map.{Map, map_of}
 use Rattle.sight_names.specs.Mesh.{IsMeshOf}
 use Rattle.sight_names.specs.Plan.{IsPlan, PlanParts}
-use Rattle.map_audit.specs.Audit.{IsFaultOf}
+use Rattle.map_audit.specs.Audit.{IsLineFaultOf}
 use Rattle.map_faults.specs.declared.clashes.LinePair.{LinePair}
 use Rattle.map_faults.specs.declared.loose_ends.LooseEnd.{LooseEnd}
 use Rattle.map_faults.specs.declared.tears.Tear.{Tear}
-use Rattle.map_faults.specs.Clashes.{AreFirstClashes, AreInOrder}
+use Rattle.map_faults.specs.Clashes.{AreFirstClashes, AreNumbersInOrder}
 use Rattle.map_faults.specs.Corners.{AreCornersOf}
 use Rattle.map_faults.specs.LooseEnds.{AreLooseEnds}
 use Rattle.map_faults.specs.OpenSides.{AreOpenSides}
@@ -28,7 +28,7 @@ lines_of_pairs ps = flat_map (λ (p : LinePair). p.i ∷ p.j ∷ []) ps
 -- how the lines of the pair clash, and where they meet, if they aren't parallel
 pub record IsClashAt (m : Map) (p : LinePair) (a : FaultAt) : Type 0 where
   pub fault : LineFault
-  pub is : IsFaultOf m p.i p.j fault
+  pub is : IsLineFaultOf m p.i p.j fault
   pub told : a.fault ≡ point.Clash fault
   pub at : AreCornersOf m p.i p.j a.at
 
@@ -45,7 +45,7 @@ pub record AreOfClashes (m : Map) (x : FaultMarks) : Type 0 where
   pub count : ℕ
   pub are : AreFirstClashes m first count
   pub left_out : x.left_out ≡ count - length first
-  pub lines : AreInOrder (lines_of_pairs first) x.lines
+  pub lines : AreNumbersInOrder (lines_of_pairs first) x.lines
   pub faults : AreClashesAt m first x.faults
   pub arrows : x.arrows ≡ []
 
@@ -69,13 +69,13 @@ pub record AreOfOpenFaces (m : Map) (x : FaultMarks) : Type 0 where
   pub stands : map_of p ≡ m
   pub sides : List Side
   pub against : AreOpenSides m sides
-  pub lines : AreInOrder (map (λ (s : Side). s.line) sides) x.lines
+  pub lines : AreNumbersInOrder (map (λ (s : Side). s.line) sides) x.lines
   pub triangles : List Triangle
   pub mesh : IsMeshOf m triangles
   pub tears : List Tear
   pub torn : AreTornWith p triangles tears x.arrows
   pub corners : List ℕ
-  pub points : AreInOrder (map (λ (t : Tear). t.point) tears) corners
+  pub points : AreNumbersInOrder (map (λ (t : Tear). t.point) tears) corners
   pub ends : List LooseEnd
   pub loose : AreLooseEnds p ends
   pub faults : x.faults ≡ faults_of p corners ends

@@ -12,24 +12,24 @@ use Rattle.sight_names.specs.Order.{Ascends}
 use Rattle.sight_names.specs.Plan.{PlanParts}
 use Rattle.sight_names.proofs.Lists.{contains_of_get}
 use Rattle.mesh_base.proofs.SightLaws.Plans.{line_below}
-use Rattle.fault_report.specs.Slips.{AddsIf, AreJust, AreMarks, IsNamedBelow, IsNameless, MarksBoth}
+use Rattle.fault_report.specs.Slips.{AddsIf, AreJustNumbers, AreMarks, IsNamedBelow, IsNameless, MarksBoth}
 
 -- ---- numbers of which something holds
 
-pub just_none : (Q : ℕ → Type 0) → AreJust Q 0 []
+pub just_none : (Q : ℕ → Type 0) → AreJustNumbers Q 0 []
 just_none Q = record { each = λ k c. absurd (contains_none k c); all = λ k lt q. absurd (omega arith); ascend = λ i j x y lt a b. absurd (none-some x a) }
 
 pub adds_so : (P Q : Type 0) (k : ℕ) (old new : List ℕ) → (P → Q) → (Q → P) → AddsIf P k old new → AddsIf Q k old new
 adds_so P Q k old new f g (inl h) = inl (f h.0, h.1)
 adds_so P Q k old new f g (inr h) = inr (λ q. h.0 (g q), h.1)
 
-pub just_more : (Q : ℕ → Type 0) (n : ℕ) (old new : List ℕ) → AddsIf (Q n) n old new → AreJust Q n old → AreJust Q (n + 1) new
-just_more Q n old new (inr f) h = subst (AreJust Q (n + 1)) (sym f.1) (record {
+pub just_more : (Q : ℕ → Type 0) (n : ℕ) (old new : List ℕ) → AddsIf (Q n) n old new → AreJustNumbers Q n old → AreJustNumbers Q (n + 1) new
+just_more Q n old new (inr f) h = subst (AreJustNumbers Q (n + 1)) (sym f.1) (record {
   each = λ k c. let w = h.each k c in (let lt = w.0 in omega arith, w.1);
   all = λ k lt q. elim (below_or_last k n lt) as (λ _. Contains old k) [ inl below ↦ h.all k below q | inr same ↦ absurd (f.0 (subst Q same q)) ];
   ascend = h.ascend;
 })
-just_more Q n old new (inl f) h = subst (AreJust Q (n + 1)) (sym f.1) (record {
+just_more Q n old new (inl f) h = subst (AreJustNumbers Q (n + 1)) (sym f.1) (record {
   each = λ k c. elim (contains_append k old (n ∷ []) c) as (λ _. (k < n + 1) × Q k) [
     | inl before ↦ let w = h.each k before in (let lt = w.0 in omega arith, w.1)
     | inr last ↦ subst (λ (x : ℕ). (x < n + 1) × Q x) (contains_one k n last) (omega arith, f.0)
@@ -111,8 +111,8 @@ pub unmarked : (p : PlanParts) (marks : List Bool) (a : ℕ) → AreMarks (map_o
 unmarked p marks a h lt false e = (λ _ s names. let l = line_of_side p s a names in false≢true (sym e ∙ (h.each a lt).1 (record { side = s; below = line_below p s.line l.0 l.1; names = names })), λ _. refl)
 unmarked p marks a h lt true e = (λ f. absurd (false≢true f), λ none. absurd (let w = (h.each a lt).0 e in none w.side w.names))
 
-pub just_at : (Q : ℕ → Type 0) (n k : ℕ) (ks : List ℕ) → n ≡ k → AreJust Q n ks → AreJust Q k ks
-just_at Q n k ks e h = subst (λ (x : ℕ). AreJust Q x ks) e h
+pub just_at : (Q : ℕ → Type 0) (n k : ℕ) (ks : List ℕ) → n ≡ k → AreJustNumbers Q n ks → AreJustNumbers Q k ks
+just_at Q n k ks e h = subst (λ (x : ℕ). AreJustNumbers Q x ks) e h
 
 pub marks_at : (m : Map) (n k : ℕ) (marks : List Bool) → n ≡ k → AreMarks m n marks → AreMarks m k marks
 marks_at m n k marks e h = subst (λ (x : ℕ). AreMarks m x marks) e h

@@ -3,7 +3,7 @@ use Rattle.std.specs.Prelude.{◌≡◌, ℕ, ◌-◌, List, ◌++◌, codes, le
 use Rattle.std.specs.List.{AllByRecursion, flat_map}
 use Rattle.sight_names.specs.Map.{Map, map_of}
 use Rattle.sight_names.specs.Plan.{PlanParts}
-use Rattle.map_audit.specs.Audit.{IsFaultOf}
+use Rattle.map_audit.specs.Audit.{IsLineFaultOf}
 use Rattle.map_faults.specs.Clashes.{AreFirstClashes}
 use Rattle.map_faults.specs.Corners.{AreCornersOf}
 use Rattle.map_faults.specs.declared.clashes.LinePair.{LinePair}
@@ -13,7 +13,7 @@ use Rattle.fault_report.specs.Rows.{clash_row, rest_row}
 
 -- this is what the lines of the pair share, and where they meet
 pub record IsToldClash (m : Map) (c : Clash) : Type 0 where
-  pub fault : IsFaultOf m c.pair.i c.pair.j c.fault
+  pub fault : IsLineFaultOf m c.pair.i c.pair.j c.fault
   pub place : AreCornersOf m c.pair.i c.pair.j c.at
 
 -- so for each of these pairs, in order

@@ -34,8 +34,8 @@ line_text p (Some l) = way_text p l.a l.b
 line_text p None = codes ""
 
 -- from where to where the line of this record goes, which it has
-abbrev pub ends_text : PlanParts → ℕ → List ℕ
-ends_text p i = line_text p (option_and_then (λ (l : Option Line). l) (slice_get p.lines i))
+abbrev pub line_ends_text : PlanParts → ℕ → List ℕ
+line_ends_text p i = line_text p (option_and_then (λ (l : Option Line). l) (slice_get p.lines i))
 
 -- ---- a line a fault
 
@@ -50,7 +50,7 @@ clash_words (Overlap i j) = codes "overlap " ++ two i j
 -- where the two meet, or where the first one goes
 abbrev pub place_text : PlanParts → LinePair → Option Pt → List ℕ
 place_text p pair (Some c) = codes " at " ++ point_text c
-place_text p pair None = ends_text p pair.i
+place_text p pair None = line_ends_text p pair.i
 
 abbrev pub clash_line : PlanParts → Clash → List ℕ
 clash_line p c = clash_words c.fault ++ place_text p c.pair c.at ++ codes "\n"
@@ -60,7 +60,7 @@ sector_text (Some a) = codes " of sector " ++ decimal a
 sector_text None = codes ""
 
 abbrev pub open_line : PlanParts → Side → List ℕ
-open_line p s = codes "open " ++ side_text s ++ sector_text (named (map_of p) s) ++ ends_text p s.line ++ codes "\n"
+open_line p s = codes "open " ++ side_text s ++ sector_text (named (map_of p) s) ++ line_ends_text p s.line ++ codes "\n"
 
 abbrev pub tear_line : PlanParts → Tear → List ℕ
 tear_line p t = codes "torn corner at " ++ point_text (spot p t.point) ++ codes " by " ++ side_text t.side ++ codes "\n"
@@ -72,7 +72,7 @@ abbrev pub loose_line : PlanParts → LooseEnd → List ℕ
 loose_line p e = codes "loose end at " ++ point_text (spot p e.point) ++ codes " of line " ++ decimal e.line ++ codes "\n"
 
 abbrev pub sideless_line : PlanParts → Sideless → List ℕ
-sideless_line p s = codes "slip: line " ++ decimal s.line ++ codes " has no side" ++ ends_text p s.line ++ codes "\n"
+sideless_line p s = codes "slip: line " ++ decimal s.line ++ codes " has no side" ++ line_ends_text p s.line ++ codes "\n"
 
 abbrev pub nameless_line : PlanParts → Nameless → List ℕ
 nameless_line p s = codes "slip: sector " ++ decimal s.sector ++ codes " has no side\n"

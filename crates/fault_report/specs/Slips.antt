@@ -11,7 +11,7 @@ use Rattle.row_spelling.specs.declared.Spelling.{Spelling}
 use Rattle.fault_report.specs.Rows.{kind_text, nameless_row, sideless_row}
 
 -- just the numbers below n of which Q holds, ascending
-pub record AreJust (Q : ℕ → Type 0) (n : ℕ) (ks : List ℕ) : Type 0 where
+pub record AreJustNumbers (Q : ℕ → Type 0) (n : ℕ) (ks : List ℕ) : Type 0 where
   pub each : (k : ℕ) → Contains ks k → (k < n) × Q k
   pub all : (k : ℕ) → k < n → Q k → Contains ks k
   pub ascend : Ascends (λ x y. x < y) ks
@@ -29,12 +29,12 @@ IsNameless m a = (s : Side) → ¬ Names m s a
 
 pub record AreSidelessTold (spelled : Spelling) (p : PlanParts) (text : List ℕ) : Type 0 where
   pub lines : List Sideless
-  pub are : AreJust (IsSideless p) (length p.lines) (map (λ (s : Sideless). s.line) lines)
+  pub are : AreJustNumbers (IsSideless p) (length p.lines) (map (λ (s : Sideless). s.line) lines)
   pub is : text ≡ kind_text spelled (sideless_row spelled p) (codes "lines without a side") lines
 
 pub record AreNamelessTold (spelled : Spelling) (p : PlanParts) (text : List ℕ) : Type 0 where
   pub sectors : List Nameless
-  pub are : AreJust (IsNameless (map_of p)) p.sectors (map (λ (s : Nameless). s.sector) sectors)
+  pub are : AreJustNumbers (IsNameless (map_of p)) p.sectors (map (λ (s : Nameless). s.sector) sectors)
   pub is : text ≡ kind_text spelled (nameless_row spelled p) (codes "sectors without a side") sectors
 
 -- ---- one after the other

@@ -2,7 +2,7 @@
 
 ghost use Rattle.std.specs.Prelude.{◌≡◌, ◌↔◌, IfOk, IsTrue, OnOk, false, length, map, slice_index_or};
 ghost use Rattle.sight_names.specs.Map.{map_of};
-ghost use Rattle.fault_report.specs.Slips.{AddsIf, AreJust, AreMarks, IsNameless, IsSideless, Marks, MarksBoth};
+ghost use Rattle.fault_report.specs.Slips.{AddsIf, AreJustNumbers, AreMarks, IsNameless, IsSideless, Marks, MarksBoth};
 
 use sight_names::{Memory, Plan, Side};
 use std::alloc::Global;
@@ -41,7 +41,7 @@ fn add_sideless(found: &mut Vec<Sideless>, i: u16, holds: bool) -> Result<(), Me
 
 /// The lines of which no side names a sector.
 pub fn sideless_of(alloc: Global, plan: &Plan) -> Result<Vec<Sideless>, Memory>
-    ensures { IfOk result (λ v. AreJust (IsSideless plan.now) (length plan.now.lines) (map (λ (s : Sideless). s.line) v.items)) }
+    ensures { IfOk result (λ v. AreJustNumbers (IsSideless plan.now) (length plan.now.lines) (map (λ (s : Sideless). s.line) v.items)) }
 {
     let mut found = Vec::new(alloc);
     for i in 0..plan.lines().len() {
@@ -111,7 +111,7 @@ fn add_nameless(found: &mut Vec<Nameless>, a: u16, holds: bool) -> Result<(), Me
 
 /// The sectors that no side names.
 pub fn nameless_of(alloc: Global, plan: &Plan) -> Result<Vec<Nameless>, Memory>
-    ensures { IfOk result (λ v. AreJust (IsNameless (map_of plan.now)) plan.now.sectors (map (λ (s : Nameless). s.sector) v.items)) }
+    ensures { IfOk result (λ v. AreJustNumbers (IsNameless (map_of plan.now)) plan.now.sectors (map (λ (s : Nameless). s.sector) v.items)) }
 {
     let marks = marks_of(alloc, plan)?;
     let mut found = Vec::new(alloc);

@@ -3,7 +3,7 @@
 ghost use Rattle.std.specs.Prelude.{◌≡◌, ◌++◌, OnOk, string_bytes};
 ghost use Rattle.std.specs.Fmt.{decimal, signed_decimal};
 ghost use Rattle.sight_names.specs.Texts.{side_text as the_side_text};
-ghost use Rattle.fault_report.specs.Lines.{ends_text, point_text, rest_text, spot, way_text};
+ghost use Rattle.fault_report.specs.Lines.{line_ends_text, point_text, rest_text, spot, way_text};
 
 use sight_names::{Line, Plan, Pt, Side};
 use std::alloc::{AllocError, Global};
@@ -94,7 +94,7 @@ pub fn push_way(
 
 /// Adds from where to where the line of this record goes; nothing where it has none.
 pub fn push_ends(alloc: Global, plan: &Plan, text: &mut String, i: u16) -> Result<(), AllocError>
-    ensures { OnOk result (string_bytes text.new ≡ string_bytes text.old ++ ends_text plan.now i) }
+    ensures { OnOk result (string_bytes text.new ≡ string_bytes text.old ++ line_ends_text plan.now i) }
 {
     match plan.line(i) {
         Some(line) => push_way(alloc, plan, text, line.a, line.b),

@@ -17,12 +17,12 @@ use Rattle.mesh_base.proofs.SightLaws.Plans.{line_below}
 use Rattle.mesh_shape.specs.declared.half_edges.table.HalfEdge.{HalfEdge}
 use Rattle.mesh_shape.specs.HalfEdges.HalfEdges.{AreOfGoodMesh}
 use Rattle.cert_checker.specs.Rays.{AreSightRaysBelow}
-use Rattle.found_rays.specs.Ground.{IsGround}
+use Rattle.found_rays.specs.Ground.{IsRayGround}
 use Rattle.found_rays.specs.declared.ray_parts.TheConstants.{PART}
-use Rattle.found_rays.specs.Rays.{AreFoundInOrder, ArePartsFound, IsAdded, IsFoundRay, RayBefore}
+use Rattle.found_rays.specs.Rays.{AreFoundInOrder, ArePartsFound, IsRayAdded, IsFoundRay, RayBefore}
 use Rattle.found_rays.proofs.Ordering.{ascend_more}
 
-pub of_ground : (p : PlanParts) (ts : List Triangle) (ls : List (Option ℕ)) (xs : List HalfEdge) → IsGround p ts ls xs → AreOfGoodMesh p ts xs
+pub of_ground : (p : PlanParts) (ts : List Triangle) (ls : List (Option ℕ)) (xs : List HalfEdge) → IsRayGround p ts ls xs → AreOfGoodMesh p ts xs
 of_ground p ts ls xs g = record { labels = ls; plan = g.plan; good = g.good; edges = g.edges }
 
 pub where_none : {A : Type 0} (o : Option A) (N : Type 0) (S : A → Type 0) → MatchOption o N S → is_some o ≡ false → N
@@ -47,7 +47,7 @@ pub in_order : (p : PlanParts) (rays : List PairRay) → All (IsFoundRay p) rays
 in_order p rays all up = record { found = λ r c. All-contains (IsFoundRay p) rays r all c; ascend = up }
 
 -- one more is kept, if its pair comes behind theirs
-pub kept_more : (p : PlanParts) (r : PairRay) (old new : List PairRay) → IsFoundRay p r → AreFoundInOrder p old → IsAdded r old new → AreFoundInOrder p new
+pub kept_more : (p : PlanParts) (r : PairRay) (old new : List PairRay) → IsFoundRay p r → AreFoundInOrder p old → IsRayAdded r old new → AreFoundInOrder p new
 kept_more p r old new is h (inl (behind, e)) = subst (AreFoundInOrder p) (sym e) (record {
   found = λ s c. elim (contains_pushed old r s c) as (λ _. IsFoundRay p s) [
     | inl there ↦ h.found s there

@@ -15,7 +15,7 @@ use Rattle.sight_names.specs.Order.{Ascends, PairBefore}
 use Rattle.pair_budget.specs.PairRays.{HasRayFor, pair_cmp}
 use Rattle.pair_budget.proofs.FoundSectorsLaws.{pair_is}
 use Rattle.pair_budget.proofs.RayLaws.{pair_cmp_total}
-use Rattle.found_rays.specs.Rays.{AreOneEach, IsAdded, IsBehindAll, RayBefore}
+use Rattle.found_rays.specs.Rays.{AreOneEach, IsRayAdded, IsBehindAll, RayBefore}
 
 -- ---- the last one
 
@@ -50,7 +50,7 @@ module _ (all : List PairRay) (sorted : IsSortedByKey (λ (r : PairRay). r.pair)
       let there : is_lt (pair_cmp s.pair r.pair) ≡ false = subst (λ (x : PairRay). is_lt (pair_cmp x.pair r.pair) ≡ false) f (subst (λ (y : PairRay). is_lt (pair_cmp (get_or all j r).pair y.pair) ≡ false) e far) in
       rising r.pair.a r.pair.b s.pair.a s.pair.b there
 
-  pub one_picked : (n : ℕ) (r : PairRay) (old new : List PairRay) → slice_get all n ≡ Some r → ArePicked all n old → IsAdded r old new → ArePicked all (n + 1) new
+  pub one_picked : (n : ℕ) (r : PairRay) (old new : List PairRay) → slice_get all n ≡ Some r → ArePicked all n old → IsRayAdded r old new → ArePicked all (n + 1) new
   one_picked n r old new at h (inl (behind, is)) = subst (ArePicked all (n + 1)) (sym is) (record {
     ascend = ascend_more old r h.ascend behind;
     from = λ s c. elim (pushed_at old r s c.0 (get_of_contains (old ++ r ∷ []) s c.0 c.1 c.2)) as (λ _. (j : ℕ) × (j < n + 1) × (slice_get all j ≡ Some s)) [

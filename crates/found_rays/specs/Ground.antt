@@ -10,7 +10,7 @@ use Rattle.mesh_shape.specs.declared.half_edges.table.HalfEdge.{HalfEdge}
 use Rattle.mesh_shape.specs.HalfEdges.HalfEdges.{AreHalfEdges}
 
 -- the half-edges of a good mesh of a map whose lines meet at ends
-pub record IsGround (p : PlanParts) (ts : List Triangle) (ls : List (Option ℕ)) (xs : List HalfEdge) : Type 0 where
+pub record IsRayGround (p : PlanParts) (ts : List Triangle) (ls : List (Option ℕ)) (xs : List HalfEdge) : Type 0 where
   pub plan : IsPlan p
   pub audited : LinesMeetAtEnds (map_of p)
   pub good : IsGoodMesh (map_of p) ts ls

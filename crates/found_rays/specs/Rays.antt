@@ -6,7 +6,7 @@ use Rattle.sight_names.specs.Order.{Ascends, PairBefore}
 use Rattle.sight_names.specs.Plan.{PlanParts}
 use Rattle.sight_names.specs.Ray.{IsSightRay}
 use Rattle.pair_budget.specs.PairRays.{HasRayFor}
-use Rattle.task_crew.specs.Done.{AreDone}
+use Rattle.task_crew.specs.Done.{AreTasksDone}
 use Rattle.found_rays.specs.declared.ray_parts.TheConstants.{PART}
 
 -- ---- what walks find
@@ -26,7 +26,7 @@ AreFoundIn p rays i found = found ≡ true → All (IsFoundRay p) (take PART (dr
 pub record ArePartsFound (p : PlanParts) (rays : List PairRay) (found : List Bool) : Type 0 where
   pub count : ℕ
   pub enough : length rays ≤ count * PART
-  pub done : AreDone (AreFoundIn p rays) count found
+  pub done : AreTasksDone (AreFoundIn p rays) count found
 
 -- ---- order
 
@@ -42,8 +42,8 @@ abbrev pub IsBehindNot : List PairRay → PairRay → Type 0
 IsBehindNot rays r = (s : PairRay) × Contains rays s × ¬ PairBefore s.pair r.pair
 
 -- the ray is put behind the others, if its pair comes behind theirs
-abbrev pub IsAdded : PairRay → List PairRay → List PairRay → Type 0
-IsAdded r old new = (IsBehindAll old r × (new ≡ old ++ r ∷ [])) ⊎ (IsBehindNot old r × (new ≡ old))
+abbrev pub IsRayAdded : PairRay → List PairRay → List PairRay → Type 0
+IsRayAdded r old new = (IsBehindAll old r × (new ≡ old ++ r ∷ [])) ⊎ (IsBehindNot old r × (new ≡ old))
 
 -- of those rays one for each pair, by their pairs
 pub record AreOneEach (all rays : List PairRay) : Type 0 where

@@ -5,7 +5,7 @@ ghost use Rattle.sight_names.specs.Map.{map_of};
 ghost use Rattle.sight_names.specs.Order.{Ascends};
 ghost use Rattle.sight_names.specs.Ray.{IsSightRay};
 ghost use Rattle.cert_checker.specs.Rays.{AreSightRaysBelow};
-ghost use Rattle.found_rays.specs.Ground.{IsGround};
+ghost use Rattle.found_rays.specs.Ground.{IsRayGround};
 ghost use Rattle.found_rays.specs.Rays.{AreFoundInOrder, IsFoundRay, RayBefore};
 
 use crate::judges::RayJudges;
@@ -32,7 +32,7 @@ fn have_ordered_pairs(rays: &[PairRay]) -> bool
 
 /// Whether all of these are found to be sight rays of their pairs.
 fn are_sight_rays(over: &GroupedMesh, edges: &HalfEdges, rays: &[PairRay]) -> bool
-    requires { IsGround over.now.plan over.now.mesh.triangles over.now.labels edges.now }
+    requires { IsRayGround over.now.plan over.now.mesh.triangles over.now.labels edges.now }
     ensures { IsTrue result → AreSightRaysBelow (map_of over.now.plan) rays.now (length rays.now) }
 {
     ray_fault(&over.plan, &over.mesh, edges, rays).is_none()
@@ -40,7 +40,7 @@ fn are_sight_rays(over: &GroupedMesh, edges: &HalfEdges, rays: &[PairRay]) -> bo
 
 /// Whether this one is.
 fn is_sight_ray(over: &GroupedMesh, edges: &HalfEdges, one: &PairRay) -> bool
-    requires { IsGround over.now.plan over.now.mesh.triangles over.now.labels edges.now }
+    requires { IsRayGround over.now.plan over.now.mesh.triangles over.now.labels edges.now }
     ensures { IsTrue result → IsSightRay (map_of over.now.plan) one.now.ray one.now.pair.a one.now.pair.b }
 {
     fault_of_ray(&over.plan, &over.mesh, edges, one).is_none()
@@ -48,7 +48,7 @@ fn is_sight_ray(over: &GroupedMesh, edges: &HalfEdges, one: &PairRay) -> bool
 
 /// Whether all of these are found to be sight rays, each from the smaller group of its pair to the larger.
 pub fn are_found(over: &GroupedMesh, edges: &HalfEdges, rays: &[PairRay]) -> bool
-    requires { IsGround over.now.plan over.now.mesh.triangles over.now.labels edges.now }
+    requires { IsRayGround over.now.plan over.now.mesh.triangles over.now.labels edges.now }
     ensures { IsTrue result → All (IsFoundRay over.now.plan) rays.now }
 {
     have_ordered_pairs(rays) && are_sight_rays(over, edges, rays)
@@ -75,7 +75,7 @@ fn are_found_by<J: RayJudges>(
     rays: &[PairRay],
 ) -> Result<bool, Memory>
     requires can { J.can_judge judges.now }
-    requires ground { IsGround over.now.plan over.now.mesh.triangles over.now.labels edges.now }
+    requires ground { IsRayGround over.now.plan over.now.mesh.triangles over.now.labels edges.now }
     ensures { IfOk result (λ found. IsTrue found → All (IsFoundRay over.now.plan) rays.now) }
 {
     let parts = RayParts { over, edges, rays };
@@ -85,7 +85,7 @@ fn are_found_by<J: RayJudges>(
 
 /// Whether this one is.
 fn is_found(over: &GroupedMesh, edges: &HalfEdges, one: &PairRay) -> bool
-    requires { IsGround over.now.plan over.now.mesh.triangles over.now.labels edges.now }
+    requires { IsRayGround over.now.plan over.now.mesh.triangles over.now.labels edges.now }
     ensures { IsTrue result → IsFoundRay over.now.plan one.now }
 {
     one.pair.a < one.pair.b && is_sight_ray(over, edges, one)
@@ -98,7 +98,7 @@ fn keep(
     one: &PairRay,
     kept: &mut Vec<PairRay>,
 ) -> Result<(), Memory>
-    requires ground { IsGround over.now.plan over.now.mesh.triangles over.now.labels edges.now }
+    requires ground { IsRayGround over.now.plan over.now.mesh.triangles over.now.labels edges.now }
     requires kept { AreFoundInOrder over.now.plan kept.old.items }
     ensures { OnOk result (AreFoundInOrder over.now.plan kept.new.items) }
 {
@@ -116,7 +116,7 @@ fn those_found(
     edges: &HalfEdges,
     rays: &[PairRay],
 ) -> Result<Vec<PairRay>, Memory>
-    requires { IsGround over.now.plan over.now.mesh.triangles over.now.labels edges.now }
+    requires { IsRayGround over.now.plan over.now.mesh.triangles over.now.labels edges.now }
     ensures { IfOk result (λ v. AreFoundInOrder over.now.plan v.items) }
 {
     let mut kept = Vec::new(alloc);
@@ -136,7 +136,7 @@ pub fn judged<J: RayJudges>(
     rays: Vec<PairRay>,
 ) -> Result<Vec<PairRay>, Memory>
     requires can { J.can_judge judges.now }
-    requires ground { IsGround over.now.plan over.now.mesh.triangles over.now.labels edges.now }
+    requires ground { IsRayGround over.now.plan over.now.mesh.triangles over.now.labels edges.now }
     requires ascend { Ascends RayBefore rays.items }
     ensures { IfOk result (λ v. AreFoundInOrder over.now.plan v.items) }
 {

@@ -2,8 +2,8 @@
 
 ghost use denote.Param.Send.{IsSync};
 ghost use Rattle.std.specs.Prelude.{◌≡◌, ℕ, ◌*◌, ◌<◌, ◌≤◌, IfOk, length};
-ghost use Rattle.task_crew.specs.Done.{AreDone};
-ghost use Rattle.found_rays.specs.Ground.{IsGround};
+ghost use Rattle.task_crew.specs.Done.{AreTasksDone};
+ghost use Rattle.found_rays.specs.Ground.{IsRayGround};
 ghost use Rattle.found_rays.specs.Rays.{ArePartsFound};
 
 use crate::ray_parts::{RayParts, parts_of};
@@ -20,7 +20,7 @@ pub trait RayJudges {
     /// Whether all rays in each part are found to be sight rays, each from the smaller group of its pair to the larger.
     fn judge(&self, alloc: Global, parts: &RayParts<'_>) -> Result<Vec<bool>, Memory>
         requires can { can_judge self.now }
-        requires ground { IsGround parts.now.over.now.plan parts.now.over.now.mesh.triangles parts.now.over.now.labels parts.now.edges.now }
+        requires ground { IsRayGround parts.now.over.now.plan parts.now.over.now.mesh.triangles parts.now.over.now.labels parts.now.edges.now }
         ensures { IfOk result (λ v. ArePartsFound parts.now.over.now.plan parts.now.rays.now v.items) };
 }
 

@@ -2,7 +2,7 @@
 
 ghost use Rattle.std.specs.Prelude.{◌≡◌, IfOk, map};
 ghost use Rattle.sight_names.specs.Ray.{IsInRange};
-ghost use Rattle.found_rays.specs.Lines.{pair_of};
+ghost use Rattle.found_rays.specs.Lines.{pair_of_ray};
 
 use geom_exact::{in_range, side_of};
 use group_checker::GroupedMesh;
@@ -173,7 +173,7 @@ fn chosen_at(chosen: &[Option<Ray>], place: usize, ray: Ray) -> Ray {
 
 /// The rays with those that were chosen in their places.
 fn moved(alloc: Global, rays: &[PairRay], chosen: &[Option<Ray>]) -> Result<Vec<PairRay>, Memory>
-    ensures { IfOk result (λ v. map pair_of v.items ≡ map pair_of rays.now) }
+    ensures { IfOk result (λ v. map pair_of_ray v.items ≡ map pair_of_ray rays.now) }
 {
     let mut all = Vec::new(alloc);
     for one in rays {
@@ -193,7 +193,7 @@ pub fn on_few_lines(
     edges: &HalfEdges,
     rays: Vec<PairRay>,
 ) -> Result<Vec<PairRay>, Memory>
-    ensures { IfOk result (λ v. map pair_of v.items ≡ map pair_of rays.items) }
+    ensures { IfOk result (λ v. map pair_of_ray v.items ≡ map pair_of_ray rays.items) }
 {
     if rays.len() / MANY < over.plan.sectors as usize {
         return Ok(rays);

@@ -1,7 +1,7 @@
 //! Rays judged in parts, as tasks.
 
 ghost use Rattle.std.specs.Prelude.{◌≡◌, ℕ, ◌*◌, ◌<◌, ◌≤◌, ◌^◌, All, IsTrue, drop, length, take, slice_get, Some};
-ghost use Rattle.found_rays.specs.Ground.{IsGround};
+ghost use Rattle.found_rays.specs.Ground.{IsRayGround};
 ghost use Rattle.found_rays.specs.Rays.{AreFoundIn, IsFoundRay};
 
 use crate::judged::are_found;
@@ -45,7 +45,7 @@ impl<'a> Tasks for RayParts<'a> {
 
     type Done = bool;
 
-    ghost can_do = { λ w i. IsGround w.over.now.plan w.over.now.mesh.triangles w.over.now.labels w.edges.now × (i * PART < length w.rays.now) };
+    ghost can_do = { λ w i. IsRayGround w.over.now.plan w.over.now.mesh.triangles w.over.now.labels w.edges.now × (i * PART < length w.rays.now) };
 
     ghost is_done = { λ w i found. AreFoundIn w.over.now.plan w.rays.now i found };
 

@@ -4,7 +4,7 @@ ghost use Rattle.std.specs.Prelude.{◌↔◌, IsFalse, IsTrue, IfOk, OnOk};
 ghost use Rattle.std.specs.List.Sorted.{IsPermutation, IsSortedByKey};
 ghost use Rattle.sight_names.specs.Order.{Ascends, PairBefore};
 ghost use Rattle.pair_budget.specs.PairRays.{pair_cmp};
-ghost use Rattle.found_rays.specs.Rays.{AreOneEach, IsAdded, IsBehindAll, IsBehindNot, RayBefore};
+ghost use Rattle.found_rays.specs.Rays.{AreOneEach, IsRayAdded, IsBehindAll, IsBehindNot, RayBefore};
 
 use sight_names::{Memory, Pair, PairRay};
 use std::alloc::Global;
@@ -31,7 +31,7 @@ fn is_behind(rays: &[PairRay], ray: PairRay) -> bool
 /// Adds the ray, if its pair comes behind those of these.
 pub fn add(rays: &mut Vec<PairRay>, ray: PairRay) -> Result<(), Memory>
     requires { Ascends RayBefore rays.old.items }
-    ensures { OnOk result (IsAdded ray rays.old.items rays.new.items) }
+    ensures { OnOk result (IsRayAdded ray rays.old.items rays.new.items) }
 {
     if is_behind(rays.as_slice(), ray) {
         rays.push(ray)?;

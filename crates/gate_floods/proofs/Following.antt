@@ -17,7 +17,7 @@ use Rattle.math_base.proofs.Options.{some_is_same}
 use Rattle.math_base.proofs.Lists.{last_pushed, contains_none}
 use Rattle.sight_lift.proofs.Sequences.{begins, next_portals}
 use Rattle.cert_checker.proofs.Seeing.{front_stabbable}
-use Rattle.gate_floods.specs.Rows.{AnswersAsked, no_node, skipped, blocked, open_node, RootsAsked}
+use Rattle.gate_floods.specs.Rows.{AnswersUnskipped, no_node, skipped, blocked, open_node, RootsAsked}
 
 module _ (m : Map) (ts : List Triangle) (ls : List (Option ℕ)) (a : ℕ) (Skips Asks Enters : List Portal → Type 0) where
   -- the last of the first ones of these portals is skipped
@@ -56,7 +56,7 @@ module _ (m : Map) (ts : List Triangle) (ls : List (Option ℕ)) (a : ℕ) (Skip
 
   -- whatever goes on by these ways is followed
   abbrev Follows : List Way → Type 0
-  Follows ws = (front : List Portal) (p : Portal) (qs : List Portal) (ns : List Node) → IsGoing front p ws qs → AnswersAsked m ts ls a Skips Asks Enters (front ++ p ∷ []) ns → IsFollowed (front ++ p ∷ qs)
+  Follows ws = (front : List Portal) (p : Portal) (qs : List Portal) (ns : List Node) → IsGoing front p ws qs → AnswersUnskipped m ts ls a Skips Asks Enters (front ++ p ∷ []) ns → IsFollowed (front ++ p ∷ qs)
 
   skipped_here : (front : List Portal) (p : Portal) (qs : List Portal) → Skips (front ++ p ∷ []) → HasSkipped (front ++ p ∷ qs)
   skipped_here front p qs s = record { front = front ++ p ∷ []; back = qs; parts = one_more front p qs; skips = s }
@@ -69,7 +69,7 @@ module _ (m : Map) (ts : List Triangle) (ls : List (Option ℕ)) (a : ℕ) (Skip
 
   module _ (w : Way) (ws : List Way) (rest : Follows ws) where
     follows_behind : (v : Way) (front : List Portal) (p : Portal) (t : ℕ) (qs rs : List Portal) (ns : List Node) → portals_from ts (Some (way_out p v t)) ws ≡ Some (way_out p v t ∷ rs) → qs ≡ way_out p v t ∷ rs
-        → AllByRecursion (λ q. ¬ IsSolidLine m q) (p ∷ qs) → AllByRecursion (LeadsOutside ts ls a) (p ∷ qs) → IsStabbable m (front ++ p ∷ qs) → AnswersAsked m ts ls a Skips Asks Enters ((front ++ p ∷ []) ++ way_out p v t ∷ []) ns → IsFollowed (front ++ p ∷ qs)
+        → AllByRecursion (λ q. ¬ IsSolidLine m q) (p ∷ qs) → AllByRecursion (LeadsOutside ts ls a) (p ∷ qs) → IsStabbable m (front ++ p ∷ qs) → AnswersUnskipped m ts ls a Skips Asks Enters ((front ++ p ∷ []) ++ way_out p v t ∷ []) ns → IsFollowed (front ++ p ∷ qs)
     follows_behind v front p t qs rs ns h is walls outs line answers =
         let q = way_out p v t in
         let moved_walls : AllByRecursion (λ r. ¬ IsSolidLine m r) (p ∷ q ∷ rs) = subst (λ (us : List Portal). AllByRecursion (λ r. ¬ IsSolidLine m r) (p ∷ us)) is walls in
@@ -90,15 +90,15 @@ module _ (m : Map) (ts : List Triangle) (ls : List (Option ℕ)) (a : ℕ) (Skip
         third_is = subst (λ (r : Portal). apex ts r ≡ Some t) (sym same) third
 
         by : (v : Way) → (rs : List Portal) × (qs ≡ way_out p v t ∷ rs) × (portals_from ts (Some (way_out p v t)) ws ≡ Some (way_out p v t ∷ rs)) → IsFollowed (front ++ p ∷ qs)
-        by Left (rs, is, h) = follows_behind Left front p t qs rs left h is going.walls going.outs going.line (subst (λ (r : Portal). AnswersAsked m ts ls a Skips Asks Enters ((front ++ p ∷ []) ++ way_out r Left t ∷ []) left) (sym same) in_left)
-        by Right (rs, is, h) = follows_behind Right front p t qs rs right h is going.walls going.outs going.line (subst (λ (r : Portal). AnswersAsked m ts ls a Skips Asks Enters ((front ++ p ∷ []) ++ way_out r Right t ∷ []) right) (sym same) in_right)
+        by Left (rs, is, h) = follows_behind Left front p t qs rs left h is going.walls going.outs going.line (subst (λ (r : Portal). AnswersUnskipped m ts ls a Skips Asks Enters ((front ++ p ∷ []) ++ way_out r Left t ∷ []) left) (sym same) in_left)
+        by Right (rs, is, h) = follows_behind Right front p t qs rs right h is going.walls going.outs going.line (subst (λ (r : Portal). AnswersUnskipped m ts ls a Skips Asks Enters ((front ++ p ∷ []) ++ way_out r Right t ∷ []) right) (sym same) in_right)
 
   going_followed : (ws : List Way) → Follows ws
   going_followed [] = follows_here
   going_followed (w ∷ ws) = follows_next w ws (going_followed ws)
 
   at_first : (p : Portal) (ws : List Way) (ps : List Portal) (ns : List Node) → portals_from ts (Some p) ws ≡ Some ps → AllByRecursion (λ q. ¬ IsSolidLine m q) ps → AllByRecursion (LeadsOutside ts ls a) ps → IsStabbable m ps
-      → AnswersAsked m ts ls a Skips Asks Enters (p ∷ []) ns → IsFollowed ps
+      → AnswersUnskipped m ts ls a Skips Asks Enters (p ∷ []) ns → IsFollowed ps
   at_first p ws ps ns e walls outs line here =
       let b = begins ts p ws ps e in
       subst IsFollowed (sym b.1) (going_followed ws [] p b.0 ns (record {

@@ -12,8 +12,8 @@ use Rattle.block_evidence.specs.declared.sight_tree.Node.{Node}
 use Rattle.block_evidence.specs.declared.sight_tree.Node.TheVariants.{Open, Blocked}
 use Rattle.block_evidence.specs.SightTree.WholeTree.{HasNoNode, HasNode}
 use Rattle.math_base.proofs.Options.{some_is_same}
-use Rattle.gate_floods.specs.Rows.{AnswersAsked, no_node, skipped, blocked, open_node, RootsAsked, IsEmptyRow, HasRow, EntersNone}
-use Rattle.gate_floods.specs.Exact.{IsClaimed, IsOwned}
+use Rattle.gate_floods.specs.Rows.{AnswersUnskipped, no_node, skipped, blocked, open_node, RootsAsked, IsEmptyRow, HasRow, EntersNone}
+use Rattle.gate_floods.specs.Exact.{IsClaimedBlind, IsOwned}
 use Rattle.gate_floods.specs.Laws.{TreesAreReadOnce}
 
 same_tail : (x y : Node) (xs ys : List Node) → x ∷ xs ≡ y ∷ ys → xs ≡ ys
@@ -30,7 +30,7 @@ both ns us rest ms vs more e f h = sym (ap (λ (xs : List Node). xs ++ rest) e) 
 
 module _ (m : Map) (ts : List Triangle) (ls : List (Option ℕ)) (a : ℕ) (Skips Asks Enters : List Portal → Type 0) (never : (ps : List Portal) → Skips ps → Asks ps → ⊥) where
   abbrev Answered : List Portal → List Node → Type 0
-  Answered ps ns = AnswersAsked m ts ls a Skips Asks Enters ps ns
+  Answered ps ns = AnswersUnskipped m ts ls a Skips Asks Enters ps ns
 
   clash : (ps : List Portal) (p q : Portal) (k : ℕ) → last_or None ps ≡ Some p → HasNoNode m ts ls a p → HasNode m ts ls a ps q k → ⊥
   clash ps p q k last none has = by (subst (HasNoNode m ts ls a) (some_is_same p q (sym last ∙ has.last)) none)
@@ -79,5 +79,5 @@ module _ (m : Map) (ts : List Triangle) (ls : List (Option ℕ)) (a : ℕ) (Skip
 
 pub trees_are_read_once : TreesAreReadOnce
 trees_are_read_once rank g ts ls cert f ns rest ms more h k e =
-    (roots_once g ts ls f (IsEmptyRow g (IsClaimed g cert) (IsOwned rank (IsClaimed g cert) f)) (HasRow g (IsClaimed g cert) (IsOwned rank (IsClaimed g cert) f)) (EntersNone g ts ls (IsClaimed g cert) (IsOwned rank (IsClaimed g cert) f))
+    (roots_once g ts ls f (IsEmptyRow g (IsClaimedBlind g cert) (IsOwned rank (IsClaimedBlind g cert) f)) (HasRow g (IsClaimedBlind g cert) (IsOwned rank (IsClaimedBlind g cert) f)) (EntersNone g ts ls (IsClaimedBlind g cert) (IsOwned rank (IsClaimedBlind g cert) f))
     (λ ps empty some. empty some.0 some.1) (roots g f) ns rest ms more h k e).0

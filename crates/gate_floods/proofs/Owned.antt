@@ -10,7 +10,7 @@ use Rattle.cert_checker.proofs.Components.{one_component, one_number}
 use Rattle.math_base.proofs.Bools.{both_true, first_true, second_true, one_true, true_by_first, true_by_second, false_of_not, false_where_not_true}
 use Rattle.math_base.proofs.Numbers.{tells_same}
 use Rattle.math_base.proofs.Options.{some_is_same}
-use Rattle.gate_floods.specs.Exact.{IsClaimed, RanksBefore, IsOwned}
+use Rattle.gate_floods.specs.Exact.{IsClaimedBlind, RanksBefore, IsOwned}
 use Rattle.gate_floods.specs.Bits.{is_joined, ranks_before, is_owned, owned_row}
 use Rattle.gate_floods.specs.Laws.{OwnedRowsTell}
 use Rattle.gate_floods.proofs.RowBits.{same_number, joined_told, not_joined, bit_is, bit_low}
@@ -29,7 +29,7 @@ not_true : (b : Bool) → (b ≡ true → ⊥) → not b ≡ true
 not_true b h = ap not (false_where_not_true b h)
 
 module _ (rank : ℕ → ℕ) (g : Map) (cert : CertParts) (components : List ℕ) (f : ℕ) (are : AreComponents g components) (low : f < g.sectors) where
-  owned_told : (k : ℕ) → k < g.sectors → is_owned cert.rays components rank f k ≡ true → IsOwned rank (IsClaimed g cert) f k
+  owned_told : (k : ℕ) → k < g.sectors → is_owned cert.rays components rank f k ≡ true → IsOwned rank (IsClaimedBlind g cert) f k
   owned_told k low_k h =
       let one = same_number (get_or components f 0) (get_or components k 0) (first_true (get_or components f 0 == get_or components k 0) (ranks_before rank f k && not (is_joined cert.rays f k)) h) in
       let rest = second_true (get_or components f 0 == get_or components k 0) (ranks_before rank f k && not (is_joined cert.rays f k)) h in
@@ -45,19 +45,19 @@ module _ (rank : ℕ → ℕ) (g : Map) (cert : CertParts) (components : List �
         ranks_told rank f k (first_true (ranks_before rank f k) (not (is_joined cert.rays f k)) rest),
       )
 
-  owned_tells : (k : ℕ) → IsOwned rank (IsClaimed g cert) f k → is_owned cert.rays components rank f k ≡ true
+  owned_tells : (k : ℕ) → IsOwned rank (IsClaimedBlind g cert) f k → is_owned cert.rays components rank f k ≡ true
   owned_tells k (claim, ranks) =
       let s = one_number g components f k are low claim.within_too claim.connected in
       let same : get_or components f 0 ≡ get_or components k 0 = get_or_from_slice_get components f s.0 0 s.1 ∙ sym (get_or_from_slice_get components k s.0 0 s.2) in
       both_true (get_or components f 0 == get_or components k 0) (ranks_before rank f k && not (is_joined cert.rays f k)) (tells_same (get_or components f 0) (get_or components k 0) same)
       (both_true (ranks_before rank f k) (not (is_joined cert.rays f k)) (ranks_tell rank f k ranks) (not_true (is_joined cert.rays f k) (λ j. claim.apart (joined_told cert f k j))))
 
-  owned_bits : (k : ℕ) → slice_get (owned_row cert.rays components rank g.sectors f) k ≡ Some true → IsOwned rank (IsClaimed g cert) f k
+  owned_bits : (k : ℕ) → slice_get (owned_row cert.rays components rank g.sectors f) k ≡ Some true → IsOwned rank (IsClaimedBlind g cert) f k
   owned_bits k h =
       let low_k = bit_low (is_owned cert.rays components rank f) 0 g.sectors k true h in
       owned_told k low_k (some_is_same (is_owned cert.rays components rank f k) true (sym (bit_is (is_owned cert.rays components rank f) g.sectors k low_k) ∙ h))
 
-  bits_owned : (k : ℕ) → IsOwned rank (IsClaimed g cert) f k → slice_get (owned_row cert.rays components rank g.sectors f) k ≡ Some true
+  bits_owned : (k : ℕ) → IsOwned rank (IsClaimedBlind g cert) f k → slice_get (owned_row cert.rays components rank g.sectors f) k ≡ Some true
   bits_owned k h = bit_is (is_owned cert.rays components rank f) g.sectors k h.0.within_too ∙ ap (λ (b : Bool). Some b) (owned_tells k h)
 
 pub owned_rows_tell : OwnedRowsTell

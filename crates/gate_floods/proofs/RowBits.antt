@@ -9,8 +9,8 @@ use Rattle.math_base.proofs.Bools.{both_true, first_true, second_true, one_true,
 use Rattle.math_base.proofs.Lists.{contains_none, contains_here}
 use Rattle.math_base.proofs.Numbers.{same_or_not, tells_same, tells_other}
 use Rattle.math_base.proofs.Options.{none_is_not_some, some_is_same}
-use Rattle.gate_floods.specs.Exact.{IsClaimed, IsOwned}
-use Rattle.gate_floods.specs.Bits.{both_rows, has_bit, has_ray, is_joined, bits_from}
+use Rattle.gate_floods.specs.Exact.{IsClaimedBlind, IsOwned}
+use Rattle.gate_floods.specs.Bits.{both_rows, has_bit_in_list, has_ray, is_joined, bits_from}
 use Rattle.gate_floods.specs.Laws.{RowsAreBits, JoinedRowsTell}
 use Rattle.gate_floods.proofs.RowsOn.{row_behind, row_masked}
 
@@ -36,23 +36,23 @@ in_second (x ∷ xs) (y ∷ ys) (suc c) h = in_second xs ys c h
 
 -- ---- a row with a bit, and one without
 
-found_bit : (xs : List Bool) → has_bit xs ≡ true → (c : ℕ) × (slice_get xs c ≡ Some true)
+found_bit : (xs : List Bool) → has_bit_in_list xs ≡ true → (c : ℕ) × (slice_get xs c ≡ Some true)
 found_bit [] h = absurd (not_both_values false h refl)
-found_bit (x ∷ xs) h = elim (one_true x (has_bit xs) h) as (λ _. (c : ℕ) × (slice_get (x ∷ xs) c ≡ Some true)) [
+found_bit (x ∷ xs) h = elim (one_true x (has_bit_in_list xs) h) as (λ _. (c : ℕ) × (slice_get (x ∷ xs) c ≡ Some true)) [
   | inl e ↦ (0, ap (λ (b : Bool). Some b) e)
   | inr e ↦ let r = found_bit xs e in (suc r.0, r.1)
 ]
 
-no_bit : (xs : List Bool) → has_bit xs ≡ false → (c : ℕ) → slice_get xs c ≡ Some true → ⊥
+no_bit : (xs : List Bool) → has_bit_in_list xs ≡ false → (c : ℕ) → slice_get xs c ≡ Some true → ⊥
 no_bit [] h c k = none_is_not_some true k
-no_bit (x ∷ xs) h zero k = not_both_values x (some_is_same x true k) (first_false x (has_bit xs) h)
-no_bit (x ∷ xs) h (suc c) k = no_bit xs (second_false x (has_bit xs) h) c k
+no_bit (x ∷ xs) h zero k = not_both_values x (some_is_same x true k) (first_false x (has_bit_in_list xs) h)
+no_bit (x ∷ xs) h (suc c) k = no_bit xs (second_false x (has_bit_in_list xs) h) c k
 
 pub rows_are_bits : RowsAreBits
 rows_are_bits rank g ts ls cert f ps row is_map good tells = (
   (λ p b d mask gate masks c. (
-    (λ h. row_masked g is_map ts ls good (IsClaimed g cert) (IsOwned rank (IsClaimed g cert) f) ps p b d c gate ((tells c).0 (in_first row mask c h)) ((masks c).0 (in_second row mask c h))),
-    (λ h. let r = row_behind g is_map ts ls good (IsClaimed g cert) (IsOwned rank (IsClaimed g cert) f) ps p b d c gate h in in_both row mask c ((tells c).1 r.0) ((masks c).1 r.1)),
+    (λ h. row_masked g is_map ts ls good (IsClaimedBlind g cert) (IsOwned rank (IsClaimedBlind g cert) f) ps p b d c gate ((tells c).0 (in_first row mask c h)) ((masks c).0 (in_second row mask c h))),
+    (λ h. let r = row_behind g is_map ts ls good (IsClaimedBlind g cert) (IsOwned rank (IsClaimedBlind g cert) f) ps p b d c gate h in in_both row mask c ((tells c).1 r.0) ((masks c).1 r.1)),
   )),
   (λ some. let r = found_bit row some in (r.0, (tells r.0).0 r.1)),
   (λ none c h. no_bit row none c ((tells c).1 h)),

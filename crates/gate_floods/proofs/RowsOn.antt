@@ -9,7 +9,7 @@ use Rattle.sight_names.proofs.Lists.{contains_cases}
 use Rattle.math_base.proofs.Lists.{contains_none, contains_here, contains_left, contains_right, contains_append}
 use Rattle.gate_floods.specs.Gates.{IsGate, IsInMask}
 use Rattle.gate_floods.specs.Rows.{IsInRow}
-use Rattle.gate_floods.specs.Exact.{IsClaimed, IsOwned}
+use Rattle.gate_floods.specs.Exact.{IsClaimedBlind, IsOwned}
 use Rattle.gate_floods.specs.Laws.{RowsGoOn}
 use Rattle.gate_floods.proofs.Flooding.{one_gate}
 
@@ -52,4 +52,4 @@ module _ (m : Map) (is_map : IsMap m) (ts : List Triangle) (ls : List (Option â„
     )
 
 pub rows_go_on : RowsGoOn
-rows_go_on rank g ts ls cert f c is_map good = goes_on g is_map ts ls good (IsClaimed g cert) (IsOwned rank (IsClaimed g cert) f) c
+rows_go_on rank g ts ls cert f c is_map good = goes_on g is_map ts ls good (IsClaimedBlind g cert) (IsOwned rank (IsClaimedBlind g cert) f) c

@@ -26,7 +26,7 @@ use Rattle.sight_lift.proofs.LiftLaws.{sight_connects}
 use Rattle.cert_checker.proofs.Components.{connected_back}
 use Rattle.math_base.proofs.Numbers.{below_or_above}
 use Rattle.gate_floods.specs.Rows.{KeepsByRows}
-use Rattle.gate_floods.specs.Exact.{IsClaimed, RanksBefore, IsOwned, IsExactOver}
+use Rattle.gate_floods.specs.Exact.{IsClaimedBlind, RanksBefore, IsOwned, IsExactOver}
 use Rattle.gate_floods.specs.Bits.{rank_of}
 use Rattle.certificates.specs.CertExact.Grammar.{as_two}
 use Rattle.gate_floods.specs.Laws.{ExactTells, VersionThreeTells}
@@ -39,7 +39,7 @@ joined_back c f k (inl same) = inl (sym same)
 joined_back c f k (inr (inl ray)) = inr (inr ray)
 joined_back c f k (inr (inr ray)) = inr (inl ray)
 
-claimed_back : (g : Map) (c : CertParts) (f k : ℕ) → IsClaimed g c f k → IsClaimed g c k f
+claimed_back : (g : Map) (c : CertParts) (f k : ℕ) → IsClaimedBlind g c f k → IsClaimedBlind g c k f
 claimed_back g c f k h = record { within = h.within_too; within_too = h.within; connected = connected_back g f k h.connected.0 h.connected.1; apart = λ j. h.apart (joined_back c k f j) }
 
 -- of two different groups one ranks before the other
@@ -49,10 +49,10 @@ one_ranks rank f k differ = elim (same_or_not (rank f) (rank k)) as (λ _. Ranks
   | inr other ↦ elim (below_or_above (rank f) (rank k) other) as (λ _. RanksBefore rank f k ⊎ RanksBefore rank k f) [ inl l ↦ inl (inl l) | inr l ↦ inr (inl l) ]
 ]
 
-owned_by_one : (rank : ℕ → ℕ) (g : Map) (c : CertParts) (f k : ℕ) → IsClaimed g c f k → (f ≢ k) × (IsOwned rank (IsClaimed g c) f k ⊎ IsOwned rank (IsClaimed g c) k f)
+owned_by_one : (rank : ℕ → ℕ) (g : Map) (c : CertParts) (f k : ℕ) → IsClaimedBlind g c f k → (f ≢ k) × (IsOwned rank (IsClaimedBlind g c) f k ⊎ IsOwned rank (IsClaimedBlind g c) k f)
 owned_by_one rank g c f k h =
     let differ : f ≢ k = λ e. h.apart (inl e) in
-    (differ, elim (one_ranks rank f k differ) as (λ _. IsOwned rank (IsClaimed g c) f k ⊎ IsOwned rank (IsClaimed g c) k f) [ inl r ↦ inl (h, r) | inr r ↦ inr (claimed_back g c f k h, r) ])
+    (differ, elim (one_ranks rank f k differ) as (λ _. IsOwned rank (IsClaimedBlind g c) f k ⊎ IsOwned rank (IsClaimedBlind g c) k f) [ inl r ↦ inl (h, r) | inr r ↦ inr (claimed_back g c f k h, r) ])
 
 no_tree : Tree
 no_tree = record { source = 0; nodes = [] }
@@ -69,15 +69,15 @@ module _ (rank : ℕ → ℕ) (m : Map) (facts : PointFacts m) (is_map : IsMap m
 
   -- ---- groups
 
-  kept : (f k : ℕ) → IsOwned rank (IsClaimed g c.cert) f k → (t : Tree) × (t.source ≡ f) × KeepsByRows g (triangles_of c.cert) (labels_of c.cert) (IsClaimed g c.cert) (IsOwned rank (IsClaimed g c.cert) f) t
+  kept : (f k : ℕ) → IsOwned rank (IsClaimedBlind g c.cert) f k → (t : Tree) × (t.source ≡ f) × KeepsByRows g (triangles_of c.cert) (labels_of c.cert) (IsClaimedBlind g c.cert) (IsOwned rank (IsClaimedBlind g c.cert) f) t
   kept f k h =
       let each = all.one_each in
       let within = h.0.within in
       let t = all.trees f (get_or c.cert.trees f no_tree) (slice_get-get_or c.cert.trees f no_tree (omega (arith, each, within))) in
       (get_or c.cert.trees f no_tree, t.0, t.1)
 
-  claimed_blind : (f k : ℕ) → IsClaimed g c.cert f k → ¬ Sees g f k
-  claimed_blind = claims_are_right g (triangles_of c.cert) (labels_of c.cert) (IsClaimed g c.cert) (IsOwned rank (IsClaimed g c.cert)) grouped_is_map grouped_ends good (owned_by_one rank g c.cert) kept
+  claimed_blind : (f k : ℕ) → IsClaimedBlind g c.cert f k → ¬ Sees g f k
+  claimed_blind = claims_are_right g (triangles_of c.cert) (labels_of c.cert) (IsClaimedBlind g c.cert) (IsOwned rank (IsClaimedBlind g c.cert)) grouped_is_map grouped_ends good (owned_by_one rank g c.cert) kept
 
   ray_sees : (f k : ℕ) → HasRay c.cert f k → Sees g f k
   ray_sees f k (r, there, pair) = sight_sees g r.ray f k grouped_is_map grouped_ends (subst (λ (x : ℕ). IsSightRay g r.ray x k) (ap (λ (q : Pair). q.a) pair) (subst (λ (x : ℕ). IsSightRay g r.ray r.pair.a x) (ap (λ (q : Pair). q.b) pair) (all.rays r there)))

@@ -13,9 +13,9 @@ both_rows (x ∷ xs) [] = []
 both_rows (x ∷ xs) (y ∷ ys) = (x && y) ∷ both_rows xs ys
 
 -- some bit is set
-abbrev pub has_bit : List Bool → Bool
-has_bit [] = false
-has_bit (x ∷ xs) = x || has_bit xs
+abbrev pub has_bit_in_list : List Bool → Bool
+has_bit_in_list [] = false
+has_bit_in_list (x ∷ xs) = x || has_bit_in_list xs
 
 -- how many bits are set
 abbrev pub count_bits : List Bool → ℕ

@@ -20,7 +20,7 @@ use Rattle.gate_floods.specs.Bits.{rank_of}
 use Rattle.gate_floods.specs.Rows.{KeepsByRows}
 
 -- claimed not to see each other: different groups of one component without a ray
-pub record IsClaimed (g : Map) (c : CertParts) (f k : ℕ) : Type 0 where
+pub record IsClaimedBlind (g : Map) (c : CertParts) (f k : ℕ) : Type 0 where
   pub within : f < g.sectors
   pub within_too : k < g.sectors
   pub connected : AreConnected g f k
@@ -42,7 +42,7 @@ pub record IsExactOver (rank : ℕ → ℕ) (m : Map) (table : List ℕ) (c : Ce
   pub rays : (r : PairRay) → Contains c.cert.rays r → IsSightRay g r.ray r.pair.a r.pair.b
   -- each group has its tree, in order, which keeps from all that the group owns
   pub one_each : length c.cert.trees ≡ g.sectors
-  pub trees : (f : ℕ) (t : Tree) → slice_get c.cert.trees f ≡ Some t → (t.source ≡ f) × KeepsByRows g (triangles_of c.cert) (labels_of c.cert) (IsClaimed g c.cert) (IsOwned rank (IsClaimed g c.cert) f) t
+  pub trees : (f : ℕ) (t : Tree) → slice_get c.cert.trees f ≡ Some t → (t.source ≡ f) × KeepsByRows g (triangles_of c.cert) (labels_of c.cert) (IsClaimedBlind g c.cert) (IsOwned rank (IsClaimedBlind g c.cert) f) t
   -- no pair is listed
   pub listed : c.listed ≡ []
   -- a bit is set exactly where no group of the one sector is joined with a group of the other

@@ -17,8 +17,8 @@ use Rattle.cert_format.specs.declared.cert_groups.cert.CertTwo.{CertTwo}
 use Rattle.gate_floods.specs.Gates.{IsGate, IsBeyond, IsInMask, MayFollow}
 use Rattle.gate_floods.specs.Rows.{IsInRow, IsEmptyRow, HasRow, KeepsByRows}
 use Rattle.certificates.specs.declared.cert_exact.cert.ExactParts.{ExactParts}
-use Rattle.gate_floods.specs.Exact.{IsClaimed, IsOwned, IsAcceptedExact, IsAcceptedThree, TellsAll}
-use Rattle.gate_floods.specs.Bits.{IsRowOf, both_rows, has_bit, joined_row, owned_row}
+use Rattle.gate_floods.specs.Exact.{IsClaimedBlind, IsOwned, IsAcceptedExact, IsAcceptedThree, TellsAll}
+use Rattle.gate_floods.specs.Bits.{IsRowOf, both_rows, has_bit_in_list, joined_row, owned_row}
 
 -- where a line splits the portals of a sequence, each later one may follow each earlier one
 abbrev pub LaterMayFollow : Type 0
@@ -46,7 +46,7 @@ VersionThreeTells = (p : PlanParts) (t : TableParts) (c : ExactParts) → IsPlan
 -- What a walk keeps in its row: at first what the tree is to keep from; behind a portal that is no gate the same; behind a gate
 -- what is in its mask too.
 abbrev pub RowsGoOn : Type 0
-RowsGoOn = (rank : ℕ → ℕ) (g : Map) (ts : List Triangle) (ls : List (Option ℕ)) (cert : CertParts) (f c : ℕ) → IsMap g → IsGoodMesh g ts ls → let Claims = IsClaimed g cert in let Keeps = IsOwned rank Claims f in
+RowsGoOn = (rank : ℕ → ℕ) (g : Map) (ts : List Triangle) (ls : List (Option ℕ)) (cert : CertParts) (f c : ℕ) → IsMap g → IsGoodMesh g ts ls → let Claims = IsClaimedBlind g cert in let Keeps = IsOwned rank Claims f in
     (IsInRow g Claims Keeps [] c ↔ Keeps c)
     × ((ps : List Portal) (p : Portal) → ((b d : ℕ) → ¬ IsGate g b d p) → (IsInRow g Claims Keeps (ps ++ p ∷ []) c ↔ IsInRow g Claims Keeps ps c))
     × ((ps : List Portal) (p : Portal) (b d : ℕ) → IsGate g b d p → (IsInRow g Claims Keeps (ps ++ p ∷ []) c ↔ (IsInRow g Claims Keeps ps c × IsInMask g Claims b d p c)))
@@ -54,14 +54,14 @@ RowsGoOn = (rank : ℕ → ℕ) (g : Map) (ts : List Triangle) (ls : List (Optio
 -- The same by bits: with the bits of the row and of the gate's mask, the row behind the gate has the bits of both; and a row with
 -- a bit goes on, one without doesn't.
 abbrev pub RowsAreBits : Type 0
-RowsAreBits = (rank : ℕ → ℕ) (g : Map) (ts : List Triangle) (ls : List (Option ℕ)) (cert : CertParts) (f : ℕ) (ps : List Portal) (row : List Bool) → IsMap g → IsGoodMesh g ts ls → let Claims = IsClaimed g cert in let Keeps = IsOwned rank Claims f in
+RowsAreBits = (rank : ℕ → ℕ) (g : Map) (ts : List Triangle) (ls : List (Option ℕ)) (cert : CertParts) (f : ℕ) (ps : List Portal) (row : List Bool) → IsMap g → IsGoodMesh g ts ls → let Claims = IsClaimedBlind g cert in let Keeps = IsOwned rank Claims f in
     IsRowOf row (IsInRow g Claims Keeps ps)
     → ((p : Portal) (b d : ℕ) (mask : List Bool) → IsGate g b d p → IsRowOf mask (IsInMask g Claims b d p) → IsRowOf (both_rows row mask) (IsInRow g Claims Keeps (ps ++ p ∷ [])))
-    × (has_bit row ≡ true → HasRow g Claims Keeps ps) × (has_bit row ≡ false → IsEmptyRow g Claims Keeps ps)
+    × (has_bit_in_list row ≡ true → HasRow g Claims Keeps ps) × (has_bit_in_list row ≡ false → IsEmptyRow g Claims Keeps ps)
 
 -- the row with which the walk of a group begins: what it owns
 abbrev pub OwnedRowsTell : Type 0
-OwnedRowsTell = (rank : ℕ → ℕ) (g : Map) (cert : CertParts) (components : List ℕ) (f : ℕ) → AreComponents g components → f < g.sectors → IsRowOf (owned_row cert.rays components rank g.sectors f) (IsOwned rank (IsClaimed g cert) f)
+OwnedRowsTell = (rank : ℕ → ℕ) (g : Map) (cert : CertParts) (components : List ℕ) (f : ℕ) → AreComponents g components → f < g.sectors → IsRowOf (owned_row cert.rays components rank g.sectors f) (IsOwned rank (IsClaimedBlind g cert) f)
 
 -- A flood by bits: a row that has the gate's far sector, that is closed, where the row of what is joined with the near sector tells
 -- through which to go on, and that has nothing else than what lies beyond the gate.
@@ -69,16 +69,16 @@ abbrev pub FloodsAreRows : Type 0
 FloodsAreRows = (g : Map) (cert : CertParts) (b d : ℕ) (p : Portal) (row : List Bool) → IsMap g → IsGate g b d p
     → slice_get row d ≡ Some true
     → ((x c : ℕ) (q : Portal) → slice_get row x ≡ Some true → slice_get (joined_row cert.rays g.sectors b) x ≡ Some true → IsGate g x c q → MayFollow g p q → slice_get row c ≡ Some true)
-    → ((c : ℕ) → slice_get row c ≡ Some true → IsBeyond g (IsClaimed g cert) b d p c)
-    → IsRowOf row (IsBeyond g (IsClaimed g cert) b d p)
+    → ((c : ℕ) → slice_get row c ≡ Some true → IsBeyond g (IsClaimedBlind g cert) b d p c)
+    → IsRowOf row (IsBeyond g (IsClaimedBlind g cert) b d p)
 
 -- a mask by bits: those of the flood that are joined with the far sector
 abbrev pub MasksAreRows : Type 0
-MasksAreRows = (g : Map) (cert : CertParts) (b d : ℕ) (p : Portal) (row : List Bool) → IsMap g → IsGate g b d p → IsRowOf row (IsBeyond g (IsClaimed g cert) b d p) → IsRowOf (both_rows row (joined_row cert.rays g.sectors d)) (IsInMask g (IsClaimed g cert) b d p)
+MasksAreRows = (g : Map) (cert : CertParts) (b d : ℕ) (p : Portal) (row : List Bool) → IsMap g → IsGate g b d p → IsRowOf row (IsBeyond g (IsClaimedBlind g cert) b d p) → IsRowOf (both_rows row (joined_row cert.rays g.sectors d)) (IsInMask g (IsClaimedBlind g cert) b d p)
 
 -- of a list of nodes at most one beginning is a tree of the source that keeps by rows
 abbrev pub TreesAreReadOnce : Type 0
-TreesAreReadOnce = (rank : ℕ → ℕ) (g : Map) (ts : List Triangle) (ls : List (Option ℕ)) (cert : CertParts) (f : ℕ) (ns rest ms more : List Node) → let Claims = IsClaimed g cert in let Keeps = IsOwned rank Claims f in
+TreesAreReadOnce = (rank : ℕ → ℕ) (g : Map) (ts : List Triangle) (ls : List (Option ℕ)) (cert : CertParts) (f : ℕ) (ns rest ms more : List Node) → let Claims = IsClaimedBlind g cert in let Keeps = IsOwned rank Claims f in
     KeepsByRows g ts ls Claims Keeps (record { source = f; nodes = ns }) → KeepsByRows g ts ls Claims Keeps (record { source = f; nodes = ms }) → ns ++ rest ≡ ms ++ more → ns ≡ ms
 
 -- the bit of a pair of groups in the row of the one is set exactly where they are joined

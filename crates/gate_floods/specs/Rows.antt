@@ -30,17 +30,17 @@ EntersNone m ts ls Claims Keeps ps = (c : ℕ) → reached ts ls ps ≡ Some c �
 
 module _ (m : Map) (ts : List Triangle) (ls : List (Option ℕ)) (a : ℕ) (Skips Asks Enters : List Portal → Type 0) where
   -- the nodes answer for the sequence with these portals and for all that follows it, but for what is skipped
-  pub data AnswersAsked : List Portal → List Node → Type 0 where
-    no_node : {ps : List Portal} {ns : List Node} (p : Portal) → last_or None ps ≡ Some p → HasNoNode m ts ls a p → ns ≡ [] → AnswersAsked ps ns
-    skipped : {ps : List Portal} {ns : List Node} (p : Portal) (k : ℕ) → HasNode m ts ls a ps p k → Skips ps → ns ≡ [] → AnswersAsked ps ns
-    blocked : {ps : List Portal} {ns : List Node} (p : Portal) (k : ℕ) (e : Evidence) → HasNode m ts ls a ps p k → Asks ps → BlocksSequence m ps e → ns ≡ Blocked e ∷ [] → AnswersAsked ps ns
+  pub data AnswersUnskipped : List Portal → List Node → Type 0 where
+    no_node : {ps : List Portal} {ns : List Node} (p : Portal) → last_or None ps ≡ Some p → HasNoNode m ts ls a p → ns ≡ [] → AnswersUnskipped ps ns
+    skipped : {ps : List Portal} {ns : List Node} (p : Portal) (k : ℕ) → HasNode m ts ls a ps p k → Skips ps → ns ≡ [] → AnswersUnskipped ps ns
+    blocked : {ps : List Portal} {ns : List Node} (p : Portal) (k : ℕ) (e : Evidence) → HasNode m ts ls a ps p k → Asks ps → BlocksSequence m ps e → ns ≡ Blocked e ∷ [] → AnswersUnskipped ps ns
     open_node : {ps : List Portal} {ns : List Node} (p : Portal) (k t : ℕ) (left right : List Node) → HasNode m ts ls a ps p k → Asks ps → Enters ps → apex ts p ≡ Some t
-        → AnswersAsked (ps ++ way_out p Left t ∷ []) left → AnswersAsked (ps ++ way_out p Right t ∷ []) right → ns ≡ Open ∷ (left ++ right) → AnswersAsked ps ns
+        → AnswersUnskipped (ps ++ way_out p Left t ∷ []) left → AnswersUnskipped (ps ++ way_out p Right t ∷ []) right → ns ≡ Open ∷ (left ++ right) → AnswersUnskipped ps ns
 
   -- the nodes answer for each of these roots in order, and no node is left over
   abbrev pub RootsAsked : List Side → List Node → Type 0
   RootsAsked [] ns = ns ≡ []
-  RootsAsked (s ∷ ss) ns = (p : Portal) × (front back : List Node) × (root_portal m s ≡ Some p) × (ns ≡ front ++ back) × AnswersAsked (p ∷ []) front × RootsAsked ss back
+  RootsAsked (s ∷ ss) ns = (p : Portal) × (front back : List Node) × (root_portal m s ≡ Some p) × (ns ≡ front ++ back) × AnswersUnskipped (p ∷ []) front × RootsAsked ss back
 
 -- The tree has a node for each way that a walk could take with something left in its row, and it enters nothing that the row has.
 abbrev pub KeepsByRows : Map → List Triangle → List (Option ℕ) → (ℕ → ℕ → Type 0) → (ℕ → Type 0) → Tree → Type 0

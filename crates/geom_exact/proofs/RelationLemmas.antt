@@ -5,7 +5,7 @@ use Rattle.math_base.proofs.Quoting.{quoting, by_ring, combine1, combine2}
 use Rattle.math_base.proofs.Signs.{mul-nonneg, mul-pos, zero-of-mul, nonneg-of-mul, sign_cases, le_or_lt}
 use Rattle.sight_names.specs.declared.names.Pt.{Pt}
 use Rattle.sight_names.specs.Point.{Point, point_of, SamePoint, OnSegment}
-use Rattle.sight_names.specs.Sound.{IsCommon, IsEndOf}
+use Rattle.sight_names.specs.Sound.{IsCommon, IsLineEnd}
 use Rattle.geom_exact.proofs.SegmentLemmas.{IsOn, on, segment, other_way, same_reach, along-at, square_of-pos, beside, along, square_of, IsAlong, IsAlong-of-mean, IsOn-of-along, spread, only_meeting, beside-at, turn-of_same, beside-of_mean, along-of_mean, four_turns, meeting, meeting_is_on_first, meeting_is_on_second}
 use Rattle.geom_exact.specs.declared.Relation.{Relation}
 use Rattle.geom_exact.specs.declared.Relation.TheVariants.{Apart, Overlap, Ends, Touch, Cross}
@@ -130,19 +130,19 @@ at_end p q r s v z h a b =
 pub end_straight : (r s v : Pt) (z : Point) → OnSegment (point_of r) (point_of s) z → SamePoint z (point_of v) → turn_of r s v ≡ pos 0
 end_straight r s v z h e = zero-of-mul (pos z.d) (turn_of r s v) (scale_above z) (sym (turn-of_same r s v z e) ∙ straight r s z h)
 
-pub end_of_first : (p q r s : Pt) (z : Point) → IsMeeting p q r s z → (turn_of r s p ≡ pos 0) ⊎ (turn_of r s q ≡ pos 0) → IsEndOf p q z
+pub end_of_first : (p q r s : Pt) (z : Point) → IsMeeting p q r s z → (turn_of r s p ≡ pos 0) ⊎ (turn_of r s q ≡ pos 0) → IsLineEnd p q z
 end_of_first p q r s z h (inl e) = inl (at_end p q r s p z h (turn_at_first p q) e)
 end_of_first p q r s z h (inr e) = inr (at_end p q r s q z h (turn_at_second p q) e)
 
-pub end_of_second : (p q r s : Pt) (z : Point) → IsMeeting p q r s z → (turn_of p q r ≡ pos 0) ⊎ (turn_of p q s ≡ pos 0) → IsEndOf r s z
+pub end_of_second : (p q r s : Pt) (z : Point) → IsMeeting p q r s z → (turn_of p q r ≡ pos 0) ⊎ (turn_of p q s ≡ pos 0) → IsLineEnd r s z
 end_of_second p q r s z h (inl e) = inl (at_end p q r s r z h e (turn_at_first r s))
 end_of_second p q r s z h (inr e) = inr (at_end p q r s s z h e (turn_at_second r s))
 
-pub no_end_of_first : (p q r s : Pt) (z : Point) → IsMeeting p q r s z → ¬ ((turn_of r s p ≡ pos 0) ⊎ (turn_of r s q ≡ pos 0)) → ¬ (IsEndOf p q z)
+pub no_end_of_first : (p q r s : Pt) (z : Point) → IsMeeting p q r s z → ¬ ((turn_of r s p ≡ pos 0) ⊎ (turn_of r s q ≡ pos 0)) → ¬ (IsLineEnd p q z)
 no_end_of_first p q r s z h n (inl e) = n (inl (end_straight r s p z h.common.1 e))
 no_end_of_first p q r s z h n (inr e) = n (inr (end_straight r s q z h.common.1 e))
 
-pub no_end_of_second : (p q r s : Pt) (z : Point) → IsMeeting p q r s z → ¬ ((turn_of p q r ≡ pos 0) ⊎ (turn_of p q s ≡ pos 0)) → ¬ (IsEndOf r s z)
+pub no_end_of_second : (p q r s : Pt) (z : Point) → IsMeeting p q r s z → ¬ ((turn_of p q r ≡ pos 0) ⊎ (turn_of p q s ≡ pos 0)) → ¬ (IsLineEnd r s z)
 no_end_of_second p q r s z h n (inl e) = n (inl (end_straight p q r z h.common.0 e))
 no_end_of_second p q r s z h n (inr e) = n (inr (end_straight p q s z h.common.0 e))
 
@@ -425,7 +425,7 @@ relation_swapped p q r s Overlap h = (h.0, h.1, common_swapped p q r s h.0 h.2, 
 relation_swapped p q r s Ends h = (h.0, only_swapped p q r s h.0 h.1, h.2, end_flip r s h.0 h.3)
 relation_swapped p q r s Touch h = (h.0, only_swapped p q r s h.0 h.1, touch_swapped h.0 h.2)
   where
-    touch_swapped : (z : Point) → (IsEndOf p q z × ¬ (IsEndOf r s z)) ⊎ (¬ (IsEndOf p q z) × IsEndOf r s z) → (IsEndOf p q z × ¬ (IsEndOf s r z)) ⊎ (¬ (IsEndOf p q z) × IsEndOf s r z)
+    touch_swapped : (z : Point) → (IsLineEnd p q z × ¬ (IsLineEnd r s z)) ⊎ (¬ (IsLineEnd p q z) × IsLineEnd r s z) → (IsLineEnd p q z × ¬ (IsLineEnd s r z)) ⊎ (¬ (IsLineEnd p q z) × IsLineEnd s r z)
     touch_swapped z (inl g) = inl (g.0, λ e. g.1 (end_flip s r z e))
     touch_swapped z (inr g) = inr (g.0, end_flip r s z g.1)
 relation_swapped p q r s Cross h = (h.0, only_swapped p q r s h.0 h.1, h.2, λ e. h.3 (end_flip s r h.0 e))

@@ -4,7 +4,7 @@ use Rattle.math_base.proofs.Quoting.{quoting, by_ring, combine2}
 use Rattle.math_base.proofs.Signs.{same-of-mul}
 use Rattle.sight_names.specs.declared.names.Pt.{Pt}
 use Rattle.sight_names.specs.Point.{Point, point_of, SamePoint}
-use Rattle.sight_names.specs.Sound.{IsEndOf}
+use Rattle.sight_names.specs.Sound.{IsLineEnd}
 use Rattle.geom_exact.specs.declared.Relation.{Relation}
 use Rattle.geom_exact.specs.declared.Relation.TheVariants.{Apart, Overlap, Ends, Touch, Cross}
 use Rattle.geom_exact.specs.Common.{IsOnlyCommon, IsRelation}
@@ -17,7 +17,7 @@ same_trans z w v h k = record { x = through (pos w.d) z.x (pos z.d) w.x v.x (pos
     through : (e x d y u f : ℤ) → pos 0 <ℤ e → x *ℤ e ≡ y *ℤ d → y *ℤ f ≡ u *ℤ e → x *ℤ f ≡ u *ℤ d
     through e x d y u f p h k = same-of-mul e (x *ℤ f) (u *ℤ d) p (combine2 f d h k (by_ring (e ∷ x ∷ d ∷ y ∷ u ∷ f ∷ []) _ _ (search quoting depth 60 fits 200000) (search quoting depth 60 fits 200000) tt))
 
-pub end_same : (p q : Pt) (z w : Point) → SamePoint z w → IsEndOf p q z → IsEndOf p q w
+pub end_same : (p q : Pt) (z w : Point) → SamePoint z w → IsLineEnd p q z → IsLineEnd p q w
 end_same p q z w h (inl e) = inl (same_trans w z (point_of p) (same_point_sym z w h) e)
 end_same p q z w h (inr e) = inr (same_trans w z (point_of q) (same_point_sym z w h) e)
 

@@ -2,7 +2,7 @@
 use Rattle.std.specs.Prelude.{pos, ◌-ℤ◌, ◌<ℤ◌, ◌≡◌, ◌⊎◌}
 use Rattle.sight_names.specs.declared.names.Pt.{Pt}
 use Rattle.sight_names.specs.Point.{Point, SamePoint}
-use Rattle.sight_names.specs.Sound.{IsCommon, IsEndOf}
+use Rattle.sight_names.specs.Sound.{IsCommon, IsLineEnd}
 use Rattle.geom_exact.specs.declared.Relation.{Relation}
 use Rattle.geom_exact.specs.declared.Relation.TheVariants.{Apart, Overlap, Ends, Touch, Cross}
 use Rattle.geom_exact.specs.Formulas.{turn_of, reach_of}
@@ -18,11 +18,11 @@ IsRelation p q r s Apart = (u : Point) → ¬ IsCommon p q r s u
 -- more than one
 IsRelation p q r s Overlap = (u v : Point) × IsCommon p q r s u × IsCommon p q r s v × ¬ SamePoint u v
 -- one, an end of both
-IsRelation p q r s Ends = (u : Point) × IsOnlyCommon p q r s u × IsEndOf p q u × IsEndOf r s u
+IsRelation p q r s Ends = (u : Point) × IsOnlyCommon p q r s u × IsLineEnd p q u × IsLineEnd r s u
 -- one, an end of just one
-IsRelation p q r s Touch = (u : Point) × IsOnlyCommon p q r s u × ((IsEndOf p q u × ¬ IsEndOf r s u) ⊎ (¬ IsEndOf p q u × IsEndOf r s u))
+IsRelation p q r s Touch = (u : Point) × IsOnlyCommon p q r s u × ((IsLineEnd p q u × ¬ IsLineEnd r s u) ⊎ (¬ IsLineEnd p q u × IsLineEnd r s u))
 -- one, an end of neither
-IsRelation p q r s Cross = (u : Point) × IsOnlyCommon p q r s u × ¬ IsEndOf p q u × ¬ IsEndOf r s u
+IsRelation p q r s Cross = (u : Point) × IsOnlyCommon p q r s u × ¬ IsLineEnd p q u × ¬ IsLineEnd r s u
 
 -- two segments of some length on one line, the second going the way of the first
 pub record AreLaid (p q r s : Pt) : Type 0 where

@@ -12,8 +12,8 @@ abbrev pub IsCrossingOf : Ray → Pt → Pt → Point → Type 0
 IsCrossingOf ray p q z = OnSegment (point_of p) (point_of q) z × (ray_value ray z ≡ pos 0)
 
 -- there is such a point
-abbrev pub IsCrossed : Ray → Pt → Pt → Type 0
-IsCrossed ray p q = (z : Point) × IsCrossingOf ray p q z
+abbrev pub IsSegmentCrossed : Ray → Pt → Pt → Type 0
+IsSegmentCrossed ray p q = (z : Point) × IsCrossingOf ray p q z
 
 -- the answer is the order of b * x - a * y at the crossings, whichever points stand for them
 abbrev pub IsCrossOrder : Ray → Pt → Pt → Pt → Pt → Ordering → Type 0

@@ -9,7 +9,7 @@ ghost use Rattle.std.specs.Prelude.{◌≡◌, ◌≢◌, ◌≤◌, ◌<◌, �
 ghost use Rattle.sight_names.specs.Ray.{IsInRange};
 ghost use Rattle.geom_exact.specs.Formulas.{turn_of, reach_of, side_value, AreOnOneSide, AreOnTwoSides};
 ghost use Rattle.geom_exact.specs.Common.{IsRelation, AreLaid, DoMeet};
-ghost use Rattle.geom_exact.specs.Crossings.{IsCrossed, IsCrossOrder};
+ghost use Rattle.geom_exact.specs.Crossings.{IsSegmentCrossed, IsCrossOrder};
 
 use sight_names::{Pt, Ray};
 use std::cmp::Ordering;
@@ -215,8 +215,8 @@ pub fn cross_order(ray: &Ray, l1: Pt, l2: Pt, m1: Pt, m2: Pt) -> Ordering
     requires range { IsInRange ray.now }
     requires first { AreOnTwoSides (side_value ray.now l1) (side_value ray.now l2) }
     requires second { AreOnTwoSides (side_value ray.now m1) (side_value ray.now m2) }
-    ensures first_there { IsCrossed ray.now l1 l2 }
-    ensures second_there { IsCrossed ray.now m1 m2 }
+    ensures first_there { IsSegmentCrossed ray.now l1 l2 }
+    ensures second_there { IsSegmentCrossed ray.now m1 m2 }
     ensures order { IsCrossOrder ray.now l1 l2 m1 m2 result }
 {
     let from = side_of(ray, l1);

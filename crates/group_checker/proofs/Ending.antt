@@ -30,9 +30,9 @@ use Rattle.group_checker.specs.declared.grouping.MeshVerdict.TheVariants.{Broken
 use Rattle.group_checker.specs.declared.verdict.AnyFault.{AnyFault}
 use Rattle.group_checker.specs.declared.verdict.AnyFault.TheVariants.{Check, Group, Unused}
 use Rattle.group_checker.specs.Grouping.{HasGrouping, IsGroupedMesh, TellsGrouping}
-use Rattle.group_checker.specs.Lists.{AreGroupLabels, IsGroupFault, IsListRight, IsUsedGroup}
+use Rattle.group_checker.specs.Lists.{AreGroupLabels, IsFirstListFault, IsListRight, IsUsedGroup}
 use Rattle.group_checker.specs.Meshes.{HasTriangleAt, IsFirstMeshFault}
-use Rattle.group_checker.specs.Judged.{any_of, JudgesTwo, TellsPairs}
+use Rattle.group_checker.specs.Judged.{any_of, JudgesTwo, TellsPairsOfTwo}
 use Rattle.group_checker.proofs.Meshed.{fault_moved, fault_over}
 
 -- ---- the lists of a certificate
@@ -103,7 +103,7 @@ module _ (p : PlanParts) (is : IsPlan p) (ts : List Triangle) (ls : List (Option
     pub plain_is : IsPlainMesh (map_of p) ts
     plain_is = plain_alike (map_of (regrouped_plan ts ls (length groups) p)) (map_of p) (sym names.lines) ts good_over.plain
 
-    pub group_fault_told : ((s : Side) → HasTriangleAt (map_of p) ts s) → (f : AnyFault) → IsGroupFault (map_of p) ts groups ls (Some f) → TellsGrouping p ts ls groups (Broken f)
+    pub group_fault_told : ((s : Side) → HasTriangleAt (map_of p) ts s) → (f : AnyFault) → IsFirstListFault (map_of p) ts groups ls (Some f) → TellsGrouping p ts ls groups (Broken f)
     group_fault_told sides (Check f) h = absurd h
     group_fault_told sides (Group k) h = λ t c has. record {
       mesh = own c ts ls groups has (λ us xs gs. ((s : Side) → HasTriangleAt (map_of p) us s) × IsGoodMesh (map_of (regrouped_plan us xs (length gs) p)) us xs) (sides, good_over);
@@ -124,7 +124,7 @@ module _ (p : PlanParts) (is : IsPlan p) (ts : List Triangle) (ls : List (Option
 
 later_judged : (p : PlanParts) (t : TableParts) (c : CertTwo) → IsGroupedMesh p (triangles_of c.cert) (labels_of c.cert) c.groups (regrouped_plan (triangles_of c.cert) (labels_of c.cert) (length c.groups) p)
     → (v : Verdict) → IsLaterVerdict v → JudgesRays (map_of (regrouped_plan (triangles_of c.cert) (labels_of c.cert) (length c.groups) p)) c.cert v → JudgesTrees (map_of (regrouped_plan (triangles_of c.cert) (labels_of c.cert) (length c.groups) p)) c.cert v
-    → TellsPairs (map_of (regrouped_plan (triangles_of c.cert) (labels_of c.cert) (length c.groups) p)) t c v → JudgesTwo p t c (any_of v)
+    → TellsPairsOfTwo (map_of (regrouped_plan (triangles_of c.cert) (labels_of c.cert) (length c.groups) p)) t c v → JudgesTwo p t c (any_of v)
 later_judged p t c w (YesOne totals) later rays trees pairs = record { mesh = (w.sides, w.good); groups = (w.lists, w.used); rays = rays; trees = trees; pairs = pairs }
 later_judged p t c w (NoOne (Mesh f)) later rays trees pairs = absurd later
 later_judged p t c w (NoOne (Ray a b why)) later rays trees pairs = record { mesh = (w.sides, w.good); groups = (w.lists, w.used); rays = rays; trees = trees; pairs = pairs }
@@ -135,10 +135,10 @@ later_judged p t c w (NoOne (Uncovered a b)) later rays trees pairs = record { m
 
 -- a verdict behind mesh and groups is the answer for a certificate that has these
 pub grouped_judged : (p : PlanParts) (t : TableParts) (c : CertTwo) (ts : List Triangle) (ls : List (Option ℕ)) (groups : List (List ℕ)) (grouped : PlanParts) → IsGroupedMesh p ts ls groups grouped → HasGrouping c ts ls groups
-    → (v : Verdict) → IsLaterVerdict v → JudgesRays (map_of grouped) c.cert v → JudgesTrees (map_of grouped) c.cert v → TellsPairs (map_of grouped) t c v → JudgesTwo p t c (any_of v)
+    → (v : Verdict) → IsLaterVerdict v → JudgesRays (map_of grouped) c.cert v → JudgesTrees (map_of grouped) c.cert v → TellsPairsOfTwo (map_of grouped) t c v → JudgesTwo p t c (any_of v)
 grouped_judged p t c ts ls groups grouped w has v later rays trees pairs =
     let h = own c ts ls groups has (λ us xs gs. IsGroupedMesh p us xs gs grouped) w in
     later_judged p t c (subst (IsGroupedMesh p (triangles_of c.cert) (labels_of c.cert) c.groups) h.grouped_is h) v later
     (subst (λ (x : PlanParts). JudgesRays (map_of x) c.cert v) h.grouped_is rays)
     (subst (λ (x : PlanParts). JudgesTrees (map_of x) c.cert v) h.grouped_is trees)
-    (subst (λ (x : PlanParts). TellsPairs (map_of x) t c v) h.grouped_is pairs)
+    (subst (λ (x : PlanParts). TellsPairsOfTwo (map_of x) t c v) h.grouped_is pairs)

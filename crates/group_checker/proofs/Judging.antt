@@ -11,12 +11,12 @@ use Rattle.cert_format.specs.declared.cert.Sizes.{Sizes}
 use Rattle.cert_format.proofs.LimitLaws.{few_of}
 use Rattle.cert_format.specs.declared.cert_groups.cert.CertTwo.{CertTwo}
 use Rattle.cert_checker.specs.Members.{AreMembersBelow}
-use Rattle.cert_checker.specs.Pairs.{AreFitLists, IsWithin}
+use Rattle.cert_checker.specs.Pairs.{AreFitLists, IsPairWithin}
 use Rattle.cert_checker.proofs.Lists.{each_at}
 use Rattle.group_checker.specs.Members.{AreMembers}
-use Rattle.group_checker.specs.Judged.{AreListsOfTwo, IsTwoOf}
+use Rattle.group_checker.specs.Judged.{AreListsOfTwo, IsTwoOfSectors}
 
-pub few_are : (n : ℕ) (c : CertTwo) → IsTwoOf n c → (groups : List (List ℕ)) → groups ≡ c.groups → length groups ≤ MOST_TRIANGLES
+pub few_are : (n : ℕ) (c : CertTwo) → IsTwoOfSectors n c → (groups : List (List ℕ)) → groups ≡ c.groups → length groups ≤ MOST_TRIANGLES
 few_are n c two groups same = subst (λ (gs : List (List ℕ)). length gs ≤ MOST_TRIANGLES) (sym same) (few_of two.0.points (length c.groups) two.1.few)
 
 pub members_moved : (n : ℕ) (groups given lists moved : List (List ℕ)) → given ≡ groups → moved ≡ lists → AreMembers given n lists → AreMembers groups n moved
@@ -35,9 +35,9 @@ fit_lists n count groups pairs rays size w =
     let c = w.cert in record {
       listed = record {
         ascend = subst (Ascends PairBefore) (sym w.listed_is) w.two.1.listed_ascend;
-        within = λ i q at. subst (λ (x : ℕ). IsWithin x q) w.two.2 (each_at (IsPairInRange w.two.0) c.listed i q w.two.1.listed (subst (λ (ps : List Pair). slice_get ps i ≡ Some q) w.listed_is at));
+        within = λ i q at. subst (λ (x : ℕ). IsPairWithin x q) w.two.2 (each_at (IsPairInRange w.two.0) c.listed i q w.two.1.listed (subst (λ (ps : List Pair). slice_get ps i ≡ Some q) w.listed_is at));
       };
       rays_within = λ i r at.
           let h : IsRayInRange c.cert.sizes r = each_at (IsRayInRange c.cert.sizes) c.cert.rays i r w.two.1.in_order.rays (subst (λ (rs : List PairRay). slice_get rs i ≡ Some r) w.rays_are at) in
-          subst (λ (x : ℕ). IsWithin x r.pair) (ap (λ (s : Sizes). s.sectors) w.two.1.grouped ∙ sym (size ∙ ap length w.groups_are)) h.0;
+          subst (λ (x : ℕ). IsPairWithin x r.pair) (ap (λ (s : Sizes). s.sectors) w.two.1.grouped ∙ sym (size ∙ ap length w.groups_are)) h.0;
     }

@@ -11,7 +11,7 @@ use Rattle.mesh_shape.specs.Faults.{IsFirstAgainst}
 use Rattle.mesh_shape.specs.Search.{IsSearch, IsSideSearch}
 use Rattle.face_groups.specs.TriSectors.Classes.{class_of}
 use Rattle.face_groups.specs.TriSectors.Sides.{IsSealedAt}
-use Rattle.cert_checker.specs.TreeJudge.Marks.{IsMarked, HasNoMark}
+use Rattle.cert_checker.specs.TreeJudge.Marks.{IsFlagSet, HasNoMark}
 use Rattle.face_groups.specs.GroupsBase.Named.{AreNamedAt}
 use Rattle.face_groups.proofs.GroupsBase.Ordered.{ascending_same}
 use Rattle.face_groups.specs.Verdict.{AreFaceNames}
@@ -78,8 +78,8 @@ module _ (m : Map) (ts : List Triangle) (groups : List (List ℕ)) (ls : List (O
   pub lists_told : (given : List (List ℕ)) → given ≡ lists → (r : Option ℕ) → IsSearch (HasItsList groups ls given) r → IsSearch (IsListRight m ts groups ls) r
   lists_told given same r h = search_moved (HasItsList groups ls lists) (IsListRight m ts groups ls) list_right list_own r (subst (λ (xs : List (List ℕ)). IsSearch (HasItsList groups ls xs) r) same h)
 
-pub used_told : (n : ℕ) (ls : List (Option ℕ)) (marks : List Bool) → length marks ≡ n → ((f : ℕ) → f < n → IsMarked marks f ↔ IsUsedBelow (length ls) ls f) → (r : Option ℕ) → IsSearch (λ f. f < length marks → IsMarked marks f) r → IsSearch (IsUsedGroup n ls) r
-used_told n ls marks len is r h = search_moved (λ f. f < length marks → IsMarked marks f) (IsUsedGroup n ls) (λ f marked lt. (is f lt).0 (marked (omega (arith, lt, len)))) (λ f used lt. let l : f < n = omega (arith, lt, len) in (is f l).1 (used l)) r h
+pub used_told : (n : ℕ) (ls : List (Option ℕ)) (marks : List Bool) → length marks ≡ n → ((f : ℕ) → f < n → IsFlagSet marks f ↔ IsUsedBelow (length ls) ls f) → (r : Option ℕ) → IsSearch (λ f. f < length marks → IsFlagSet marks f) r → IsSearch (IsUsedGroup n ls) r
+used_told n ls marks len is r h = search_moved (λ f. f < length marks → IsFlagSet marks f) (IsUsedGroup n ls) (λ f marked lt. (is f lt).0 (marked (omega (arith, lt, len)))) (λ f used lt. let l : f < n = omega (arith, lt, len) in (is f l).1 (used l)) r h
 
 -- ---- where a search ends
 

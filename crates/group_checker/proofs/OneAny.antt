@@ -24,7 +24,7 @@ use Rattle.group_checker.specs.declared.verdict.AnyFault.{AnyFault}
 use Rattle.group_checker.specs.declared.verdict.AnyFault.TheVariants.{Check, Group, Unused}
 use Rattle.group_checker.specs.declared.verdict.AnyVerdict.{AnyVerdict}
 use Rattle.group_checker.specs.declared.verdict.AnyVerdict.TheVariants.{Yes, No}
-use Rattle.group_checker.specs.Judged.{InWordsOfOne, TellsGroups, TellsMesh, TellsPairs}
+use Rattle.group_checker.specs.Judged.{InWordsOfOne, TellsGroups, TellsMesh, TellsPairsOfTwo}
 use Rattle.group_checker.specs.Lists.{IsListRight, IsUsedGroup}
 use Rattle.group_checker.specs.Meshes.{HasTriangleAt, IsFirstMeshFault}
 use Rattle.math_base.proofs.Numbers.{below_same_or_above}
@@ -82,7 +82,7 @@ module _ (m g : Map) (t : TableParts) (c : CertTwo) where
     pub groups : TellsGroups m c v
     pub rays : InWordsOfOne (JudgesRays g c.cert) v
     pub trees : InWordsOfOne (JudgesTrees g c.cert) v
-    pub pairs : InWordsOfOne (TellsPairs g t c) v
+    pub pairs : InWordsOfOne (TellsPairsOfTwo g t c) v
 
   -- the stage at which a fault is told; yes is told last
   abbrev stage : AnyVerdict → ℕ

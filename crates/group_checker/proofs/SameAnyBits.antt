@@ -8,10 +8,10 @@ use Rattle.cert_checker.proofs.SameBits.{HaveOneBits, promised_same}
 use Rattle.group_checker.specs.declared.verdict.AnyFault.TheVariants.{Check, Group, Unused}
 use Rattle.group_checker.specs.declared.verdict.AnyVerdict.{AnyVerdict}
 use Rattle.group_checker.specs.declared.verdict.AnyVerdict.TheVariants.{Yes, No}
-use Rattle.group_checker.specs.Judged.{InWordsOfOne, TellsPairs}
+use Rattle.group_checker.specs.Judged.{InWordsOfOne, TellsPairsOfTwo}
 
 -- the same is promised of both
-pub told_same : (m g : Map) (c : CertTwo) (t u : TableParts) → HaveOneBits m t u → (v : AnyVerdict) → InWordsOfOne (TellsPairs g t c) v → InWordsOfOne (TellsPairs g u c) v
+pub told_same : (m g : Map) (c : CertTwo) (t u : TableParts) → HaveOneBits m t u → (v : AnyVerdict) → InWordsOfOne (TellsPairsOfTwo g t c) v → InWordsOfOne (TellsPairsOfTwo g u c) v
 told_same m g c t u same (Yes totals) h = promised_same m g (IsInGroup c.groups) c.listed c.cert t u same (YesOne totals) h
 told_same m g c t u same (No (Check f)) h = promised_same m g (IsInGroup c.groups) c.listed c.cert t u same (NoOne f) h
 told_same m g c t u same (No (Group k)) h = h

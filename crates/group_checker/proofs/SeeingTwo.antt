@@ -13,7 +13,7 @@ use Rattle.cert_format.specs.declared.cert_groups.cert.CertTwo.{CertTwo}
 use Rattle.face_groups.specs.GroupsBase.Table.{IsTableFor, NamesTheLabels}
 use Rattle.face_groups.proofs.GroupsBase.CheckedGroups.{table_is_good, table_is_map, table_is_sound, table_sees, table_one_group}
 use Rattle.cert_checker.specs.AcceptedGroups.Accepted.{IsAcceptedTwo}
-use Rattle.cert_checker.specs.Sight.{TellsSight}
+use Rattle.cert_checker.specs.Sight.{TellsSightOne}
 use Rattle.cert_checker.proofs.Seeing.{SightIsBy, accepted_tells_by}
 use Rattle.group_checker.specs.Judged.{with_list}
 
@@ -26,7 +26,7 @@ grouped_sight m facts c g table names = record {
 }
 
 -- an accepted table tells of sight what is so
-pub accepted_two_tells : (p : PlanParts) → IsPlan p → LinesMeetAtEnds (map_of p) → (t : TableParts) (c : CertTwo) → t.n ≡ p.sectors → IsAcceptedTwo (map_of p) t.bytes c → TellsSight (map_of p) t (with_list c)
+pub accepted_two_tells : (p : PlanParts) → IsPlan p → LinesMeetAtEnds (map_of p) → (t : TableParts) (c : CertTwo) → t.n ≡ p.sectors → IsAcceptedTwo (map_of p) t.bytes c → TellsSightOne (map_of p) t (with_list c)
 accepted_two_tells p is ends t c size (g, names, all) =
     let m = map_of p in
     let facts = plan_facts p is in

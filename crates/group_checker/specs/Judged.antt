@@ -20,7 +20,7 @@ use Rattle.cert_format.specs.CertGroups.Grammar.{IsTwoInOrder}
 use Rattle.cert_checker.specs.declared.verdict.Verdict.{Verdict}
 use Rattle.cert_checker.specs.declared.verdict.Verdict.TheVariants.{Yes as YesOne, No as NoOne}
 use Rattle.cert_checker.specs.Judged.{JudgesMesh, JudgesRays, JudgesTrees, JudgesPairs, JudgesPairsBy}
-use Rattle.cert_checker.specs.Sight.{TellsSight}
+use Rattle.cert_checker.specs.Sight.{TellsSightOne}
 use Rattle.group_checker.specs.declared.verdict.AnyFault.TheVariants.{Check, Group, Unused}
 use Rattle.group_checker.specs.declared.verdict.AnyVerdict.{AnyVerdict}
 use Rattle.group_checker.specs.declared.verdict.AnyVerdict.TheVariants.{Yes, No}
@@ -60,8 +60,8 @@ TellsGroups m c _ = ((k : ℕ) → IsListRight m (triangles_of c.cert) c.groups 
 
 -- ---- pairs of sectors
 
-abbrev pub TellsPairs : Map → TableParts → CertTwo → Verdict → Type 0
-TellsPairs g t c v = JudgesPairsBy g (IsInGroup c.groups) t c.listed c.cert v
+abbrev pub TellsPairsOfTwo : Map → TableParts → CertTwo → Verdict → Type 0
+TellsPairsOfTwo g t c v = JudgesPairsBy g (IsInGroup c.groups) t c.listed c.cert v
 
 -- ---- the whole
 
@@ -72,7 +72,7 @@ pub record JudgesTwo (p : PlanParts) (t : TableParts) (c : CertTwo) (v : AnyVerd
   pub groups : TellsGroups (map_of p) c v
   pub rays : InWordsOfOne (JudgesRays (grouped_map p c) c.cert) v
   pub trees : InWordsOfOne (JudgesTrees (grouped_map p c) c.cert) v
-  pub pairs : InWordsOfOne (TellsPairs (grouped_map p c) t c) v
+  pub pairs : InWordsOfOne (TellsPairsOfTwo (grouped_map p c) t c) v
 
 -- the answer for one of version 1 is that of version 1
 pub record JudgesOne (m : Map) (t : TableParts) (c : CertParts) (v : AnyVerdict) : Type 0 where
@@ -97,13 +97,13 @@ pub record IsTwoFor (p : PlanParts) (c : CertTwo) : Type 0 where
   pub lines : sizes.lines ≡ length p.lines
 
 -- the same, for a map of so many sectors
-abbrev pub IsTwoOf : ℕ → CertTwo → Type 0
-IsTwoOf n c = (sizes : Sizes) × IsTwoInOrder sizes c × (sizes.sectors ≡ n)
+abbrev pub IsTwoOfSectors : ℕ → CertTwo → Type 0
+IsTwoOfSectors n c = (sizes : Sizes) × IsTwoInOrder sizes c × (sizes.sectors ≡ n)
 
 -- the groups, the list and the rays of some certificate of version 2 in order, of a map with so many sectors
 pub record AreListsOfTwo (n : ℕ) (groups : List (List ℕ)) (listed : List Pair) (rays : List PairRay) : Type 0 where
   pub cert : CertTwo
-  pub two : IsTwoOf n cert
+  pub two : IsTwoOfSectors n cert
   pub groups_are : groups ≡ cert.groups
   pub listed_is : listed ≡ cert.listed
   pub rays_are : rays ≡ cert.cert.rays
@@ -116,5 +116,5 @@ with_list c = record { sizes = c.cert.sizes; triangles = c.cert.triangles; rays 
 
 -- what the table tells of sight, with the list of the version
 abbrev pub TellsSightAny : Map → TableParts → AnyCert → Type 0
-TellsSightAny m t (One c) = TellsSight m t c
-TellsSightAny m t (Two c sizes) = TellsSight m t (with_list c)
+TellsSightAny m t (One c) = TellsSightOne m t c
+TellsSightAny m t (Two c sizes) = TellsSightOne m t (with_list c)

@@ -23,11 +23,11 @@ pub record AreGroupLabels (count : ℕ) (ts : List Triangle) (ls : List (Option 
   pub below : (k f : ℕ) → label_of ls k ≡ Some f → f < count
 
 -- the least triangle whose group isn't the list of its face; then the least group that no triangle has
-abbrev pub IsGroupFault : Map → List Triangle → List (List ℕ) → List (Option ℕ) → Option AnyFault → Type 0
-IsGroupFault m ts groups ls None = ((k : ℕ) → IsListRight m ts groups ls k) × ((f : ℕ) → IsUsedGroup (length groups) ls f)
-IsGroupFault m ts groups ls (Some (Group k)) = IsFirstAgainst (IsListRight m ts groups ls) k
-IsGroupFault m ts groups ls (Some (Unused f)) = ((k : ℕ) → IsListRight m ts groups ls k) × IsFirstAgainst (IsUsedGroup (length groups) ls) f
-IsGroupFault m ts groups ls (Some (Check f)) = ⊥
+abbrev pub IsFirstListFault : Map → List Triangle → List (List ℕ) → List (Option ℕ) → Option AnyFault → Type 0
+IsFirstListFault m ts groups ls None = ((k : ℕ) → IsListRight m ts groups ls k) × ((f : ℕ) → IsUsedGroup (length groups) ls f)
+IsFirstListFault m ts groups ls (Some (Group k)) = IsFirstAgainst (IsListRight m ts groups ls) k
+IsFirstListFault m ts groups ls (Some (Unused f)) = ((k : ℕ) → IsListRight m ts groups ls k) × IsFirstAgainst (IsUsedGroup (length groups) ls) f
+IsFirstListFault m ts groups ls (Some (Check f)) = ⊥
 
 -- ---- where the lists of the faces are known
 

@@ -7,12 +7,12 @@ ghost use Rattle.sight_names.specs.Plan.{IsPlan};
 ghost use Rattle.sight_names.specs.Sound.{LinesMeetAtEnds};
 ghost use Rattle.cert_format.specs.Accepted.{triangles_of, labels_of};
 ghost use Rattle.cert_format.specs.declared.cert_groups.cert.CertTwo.{CertTwo as CertOf};
-ghost use Rattle.cert_format.specs.CertGroups.Grammar.{IsAnyInOrder, sizes_of};
+ghost use Rattle.cert_format.specs.CertGroups.Grammar.{IsAnyInOrder, sizes_of_listing};
 ghost use Rattle.cert_checker.specs.AcceptedGroups.Accepted.{IsAcceptedAny, IsAcceptedTwo};
 ghost use Rattle.cert_checker.specs.Judged.{IsLaterVerdict, IsPairVerdict, JudgesRays, JudgesTrees};
-ghost use Rattle.cert_checker.specs.Sight.{TellsSight};
+ghost use Rattle.cert_checker.specs.Sight.{TellsSightOne};
 ghost use Rattle.cert_checker.specs.TreeJudge.Trees.{TellsReach};
-ghost use Rattle.group_checker.specs.Judged.{any_of as either, with_list, AreListsOfTwo, IsTwoFor, IsTwoOf, IsYesAny, JudgesAny, JudgesTwo, TellsPairs, TellsSightAny};
+ghost use Rattle.group_checker.specs.Judged.{any_of as either, with_list, AreListsOfTwo, IsTwoFor, IsTwoOfSectors, IsYesAny, JudgesAny, JudgesTwo, TellsPairsOfTwo, TellsSightAny};
 
 use crate::grouping::{GroupedMesh, MeshVerdict, judge_mesh};
 use crate::members::members_of;
@@ -39,7 +39,7 @@ pub fn judge_sectors(
     requires reached { reach.now.reached.n ≡ grouped.now.sectors }
     requires lists { AreListsOfTwo table.now.n groups.now listed.now rays.now }
     ensures kind { IfOk result IsPairVerdict }
-    ensures pairs { (c : CertOf) → c.groups ≡ groups.now → c.listed ≡ listed.now → c.cert.rays ≡ rays.now → TellsReach (map_of grouped.now) c.cert reach.now.walked.items reach.now.reached → IfOk result (TellsPairs (map_of grouped.now) table.now c) }
+    ensures pairs { (c : CertOf) → c.groups ≡ groups.now → c.listed ≡ listed.now → c.cert.rays ≡ rays.now → TellsReach (map_of grouped.now) c.cert reach.now.walked.items reach.now.reached → IfOk result (TellsPairsOfTwo (map_of grouped.now) table.now c) }
 {
     let members = members_of(alloc, groups, table.sectors())?;
     judge_members(
@@ -62,7 +62,7 @@ fn judge_grouped<J: TreeJudges>(
     over: &GroupedMesh,
 ) -> Result<Verdict, Memory>
     requires can { J.can_judge judges.now }
-    requires cert { IsTwoOf table.now.n two.now }
+    requires cert { IsTwoOfSectors table.now.n two.now }
     requires triangles { over.now.mesh.triangles ≡ triangles_of two.now.cert }
     requires labels { over.now.labels ≡ labels_of two.now.cert }
     requires sectors { over.now.plan.sectors ≡ length two.now.groups }
@@ -71,7 +71,7 @@ fn judge_grouped<J: TreeJudges>(
     ensures later { IfOk result IsLaterVerdict }
     ensures rays { IfOk result (JudgesRays (map_of over.now.plan) two.now.cert) }
     ensures trees { IfOk result (JudgesTrees (map_of over.now.plan) two.now.cert) }
-    ensures pairs { IfOk result (TellsPairs (map_of over.now.plan) table.now two.now) }
+    ensures pairs { IfOk result (TellsPairsOfTwo (map_of over.now.plan) table.now two.now) }
 {
     let walked = judge_walks(
         judges,
@@ -129,7 +129,7 @@ fn check_two<J: TreeJudges>(
     requires cert { IsTwoFor plan.now two.now }
     ensures exact { IfOk result (JudgesTwo plan.now table.now two.now) }
     ensures accepted { IfOk result (λ v. IsYesAny v ↔ IsAcceptedTwo (map_of plan.now) table.now.bytes two.now) }
-    ensures sight { IfOk result (λ v. IsYesAny v → TellsSight (map_of plan.now) table.now (with_list two.now)) }
+    ensures sight { IfOk result (λ v. IsYesAny v → TellsSightOne (map_of plan.now) table.now (with_list two.now)) }
 {
     let _ = plan.lines();
     judge_two(judges, alloc, plan, table, two)
@@ -146,9 +146,9 @@ pub fn check_any_by<J: TreeJudges>(
     requires can { J.can_judge judges.now }
     requires audited { LinesMeetAtEnds (map_of plan.now) }
     requires table { table.now.n ≡ plan.now.sectors }
-    requires sectors { (sizes_of cert.now).sectors ≡ plan.now.sectors }
-    requires points { (sizes_of cert.now).points ≡ length plan.now.points }
-    requires lines { (sizes_of cert.now).lines ≡ length plan.now.lines }
+    requires sectors { (sizes_of_listing cert.now).sectors ≡ plan.now.sectors }
+    requires points { (sizes_of_listing cert.now).points ≡ length plan.now.points }
+    requires lines { (sizes_of_listing cert.now).lines ≡ length plan.now.lines }
     requires in_order { IsAnyInOrder cert.now }
     ensures exact { IfOk result (JudgesAny plan.now table.now cert.now) }
     ensures accepted { IfOk result (λ v. IsYesAny v ↔ IsAcceptedAny (map_of plan.now) table.now.bytes cert.now) }
@@ -173,9 +173,9 @@ pub fn check_any(
 ) -> Result<AnyVerdict, Memory>
     requires audited { LinesMeetAtEnds (map_of plan.now) }
     requires table { table.now.n ≡ plan.now.sectors }
-    requires sectors { (sizes_of cert.now).sectors ≡ plan.now.sectors }
-    requires points { (sizes_of cert.now).points ≡ length plan.now.points }
-    requires lines { (sizes_of cert.now).lines ≡ length plan.now.lines }
+    requires sectors { (sizes_of_listing cert.now).sectors ≡ plan.now.sectors }
+    requires points { (sizes_of_listing cert.now).points ≡ length plan.now.points }
+    requires lines { (sizes_of_listing cert.now).lines ≡ length plan.now.lines }
     requires in_order { IsAnyInOrder cert.now }
     ensures exact { IfOk result (JudgesAny plan.now table.now cert.now) }
     ensures accepted { IfOk result (λ v. IsYesAny v ↔ IsAcceptedAny (map_of plan.now) table.now.bytes cert.now) }

@@ -4,8 +4,8 @@ ghost use Rattle.std.specs.Prelude.{◌≡◌, ◌≤◌, ◌<◌, ◌↔◌, �
 ghost use Rattle.sight_names.specs.Mesh.{IsPlainMesh};
 ghost use Rattle.sight_names.specs.Map.{map_of};
 ghost use Rattle.mesh_shape.specs.Search.{IsSearch};
-ghost use Rattle.cert_checker.specs.TreeJudge.Marks.{IsMarked};
-ghost use Rattle.group_checker.specs.Lists.{AreGroupLabels, HasItsList, IsGroupFault, IsGroupOf, IsListRight, IsUsedBelow, IsUsedGroup};
+ghost use Rattle.cert_checker.specs.TreeJudge.Marks.{IsFlagSet};
+ghost use Rattle.group_checker.specs.Lists.{AreGroupLabels, HasItsList, IsFirstListFault, IsGroupOf, IsListRight, IsUsedBelow, IsUsedGroup};
 
 use crate::verdict::AnyFault;
 use cert_checker::tree_judge::{mark, unmarked};
@@ -59,7 +59,7 @@ fn first_other_list(groups: &[Group], labels: &Labels, lists: &[ShortList]) -> O
 /// A mark for each of so many groups that is a label.
 fn used(alloc: Global, count: u16, labels: &[Option<u16>]) -> Result<Vec<bool>, Memory>
     ensures len { IfOk result (λ v. length v.items ≡ count) }
-    ensures marks { IfOk result (λ v. (f : ℕ) → f < count → IsMarked v.items f ↔ IsUsedBelow (length labels.now) labels.now f) }
+    ensures marks { IfOk result (λ v. (f : ℕ) → f < count → IsFlagSet v.items f ↔ IsUsedBelow (length labels.now) labels.now f) }
 {
     let mut marks = unmarked(alloc, count)?;
     for label in labels {
@@ -71,7 +71,7 @@ fn used(alloc: Global, count: u16, labels: &[Option<u16>]) -> Result<Vec<bool>, 
 /// The first flag that isn't set.
 fn first_unmarked(marks: &[bool]) -> Option<u16>
     requires { length marks.now ≤ 65535 }
-    ensures { IsSearch (λ f. f < length marks.now → IsMarked marks.now f) result }
+    ensures { IsSearch (λ f. f < length marks.now → IsFlagSet marks.now f) result }
 {
     for (f, marked) in marks.iter().enumerate() {
         if !*marked {
@@ -117,7 +117,7 @@ pub fn group_fault(
     requires few { length groups.now ≤ MOST_TRIANGLES }
     requires labels { AreGroupLabels (length groups.now) mesh.now.triangles labels.now }
     requires plain { IsPlainMesh (map_of plan.now) mesh.now.triangles }
-    ensures { IfOk result (IsGroupFault (map_of plan.now) mesh.now.triangles groups.now labels.now) }
+    ensures { IfOk result (IsFirstListFault (map_of plan.now) mesh.now.triangles groups.now labels.now) }
 {
     let other = first_wrong_list(alloc, plan, groups, mesh, labels)?;
     match other {

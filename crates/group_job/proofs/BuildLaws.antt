@@ -17,41 +17,41 @@ use Rattle.block_evidence.specs.declared.sight_tree.Node.{Node}
 use Rattle.block_evidence.specs.declared.sight_tree.Node.TheVariants.{Open, Blocked}
 use Rattle.block_evidence.specs.declared.sight_tree.Tree.{Tree}
 use Rattle.block_evidence.specs.Stuck.{end_codes}
-use Rattle.portal_walk.specs.Nodes.{IsAnswered}
+use Rattle.portal_walk.specs.Nodes.{IsNodeAnswered}
 use Rattle.cert_format.specs.declared.cert.Labelled.{Labelled}
 use Rattle.cert_format.specs.Parts.{CertParts}
-use Rattle.cert_format.specs.Grammar.{IsInOrder, IsSideInRange, IsRayInRange, IsNodeInOrder, IsTreeInRange}
+use Rattle.cert_format.specs.Grammar.{IsOneInOrder, IsSideInRange, IsRayInRange, IsNodeInOrder, IsTreeInRange}
 use Rattle.pair_budget.specs.declared.results.Outcome.{Outcome}
 use Rattle.pair_budget.specs.declared.results.Outcome.TheVariants as outcome
 use Rattle.pair_budget.specs.declared.results.SourceResult.{SourceResult}
 use Rattle.pair_budget.specs.declared.results.Verdicts.{Verdicts}
 use Rattle.pair_budget.specs.Walked.{IsTreeFrom}
-use Rattle.pair_budget.specs.Decide.{HasItsTree, AreResults, IsFoundBy, IsRayOf, DecidesRays, trees_of}
-use Rattle.pair_budget.specs.Rows.{tree_of}
+use Rattle.pair_budget.specs.Decide.{HasItsTree, AreResults, IsFoundBy, IsRayOfResults, DecidesRays, trees_of}
+use Rattle.pair_budget.specs.Rows.{tree_of_outcome}
 use Rattle.pair_budget.proofs.FoundSectorsLaws.{reached_by}
 use Rattle.pair_budget.proofs.NamedLaws.{trees_cons}
 use Rattle.sight_names.specs.declared.names.Triangle.{Triangle}
 use Rattle.sight_names.specs.Map.{map_of}
 use Rattle.block_evidence.specs.SightTree.WholeTree.{IsWholeTree}
 use Rattle.pair_budget.specs.Decided.{AreExact}
-use Rattle.pair_budget.specs.Whole.{IsShown}
+use Rattle.pair_budget.specs.Whole.{ShowsIfComplete}
 use Rattle.sight_workers.specs.declared.view.Task.{Task}
 use Rattle.sight_workers.specs.Teams.{AreWalked}
 use Rattle.cert_format.specs.declared.cert.Sizes.{Sizes}
-use Rattle.cert_format.specs.Sizes.{sizes_of}
-use Rattle.group_job.specs.Results.{AreWalks, AreVerdicts, AreShown, AreWholeTrees}
+use Rattle.cert_format.specs.Sizes.{sizes_of_plan}
+use Rattle.group_job.specs.Results.{AreWalksWithin, AreWalkVerdicts, AreWalksShown, AreWholeTrees}
 use Rattle.math_base.proofs.Numbers.{below_or_at}
 use Rattle.math_base.proofs.Lists.{all_join}
 
 -- ---- the walks
 
 -- each walk went as far as is told
-pub walks_are : (t : Task) (rs : List SourceResult) → AreResults t.plan rs → AreWalked t rs → AreWalks t.plan t.budget rs
+pub walks_are : (t : Task) (rs : List SourceResult) → AreResults t.plan rs → AreWalked t rs → AreWalksWithin t.plan t.budget rs
 walks_are t rs are walked = record { results = are; outcomes = λ k r h. (walked k r h).outcome }
 
 -- the trees of walks that went to their ends show what these found
-pub walks_shown : (t : Task) (rs : List SourceResult) → AreWalked t rs → AreShown t.plan t.mesh.triangles t.labels rs
-walks_shown t rs walked = recursion_from_All (λ (r : SourceResult). IsShown t.plan t.mesh.triangles t.labels r.found r.outcome) rs (λ k d lt. (walked k (get_or rs k d) (slice_get-get_or rs k d lt)).shown)
+pub walks_shown : (t : Task) (rs : List SourceResult) → AreWalked t rs → AreWalksShown t.plan t.mesh.triangles t.labels rs
+walks_shown t rs walked = recursion_from_All (λ (r : SourceResult). ShowsIfComplete t.plan t.mesh.triangles t.labels r.found r.outcome) rs (λ k d lt. (walked k (get_or rs k d) (slice_get-get_or rs k d lt)).shown)
 
 -- each walk found what it should
 pub walks_exact : (t : Task) (rs : List SourceResult) → AreWalked t rs → AreExact (map_of t.plan) t.mesh.triangles t.labels t.budget rs
@@ -66,17 +66,17 @@ module _ (p : PlanParts) (plan : IsPlan p) (rs : List SourceResult) (are : AreRe
   side_in_range : (n : ℕ) → n < length p.lines → (n < length p.lines) × (n < 2 ^ 15)
   side_in_range n h = let k = plan.few_lines in (h, omega arith)
 
-  found_in_range : (a b : ℕ) (ray : Ray) → IsFoundBy rs a b ray → IsSideInRange (sizes_of p) ray.first × IsSideInRange (sizes_of p) ray.last
+  found_in_range : (a b : ℕ) (ray : Ray) → IsFoundBy rs a b ray → IsSideInRange (sizes_of_plan p) ray.first × IsSideInRange (sizes_of_plan p) ray.last
   found_in_range a b ray (w, x, h, c, to, is) =
       let here = reached_by p rs are a w x h c in
-      subst (λ (r : Ray). IsSideInRange (sizes_of p) r.first × IsSideInRange (sizes_of p) r.last) is (side_in_range x.ray.first.line here.first, side_in_range x.ray.last.line here.last)
+      subst (λ (r : Ray). IsSideInRange (sizes_of_plan p) r.first × IsSideInRange (sizes_of_plan p) r.last) is (side_in_range x.ray.first.line here.first, side_in_range x.ray.last.line here.last)
 
-  ray_in_range : (r : PairRay) → IsRayOf rs r → IsSideInRange (sizes_of p) r.ray.first × IsSideInRange (sizes_of p) r.ray.last
+  ray_in_range : (r : PairRay) → IsRayOfResults rs r → IsSideInRange (sizes_of_plan p) r.ray.first × IsSideInRange (sizes_of_plan p) r.ray.last
   ray_in_range r (inl h) = found_in_range r.pair.a r.pair.b r.ray h
-  ray_in_range r (inr (ray, h, e)) = let k = found_in_range r.pair.b r.pair.a ray h in subst (λ (s : Ray). IsSideInRange (sizes_of p) s.first × IsSideInRange (sizes_of p) s.last) (sym e) (k.1, k.0)
+  ray_in_range r (inr (ray, h, e)) = let k = found_in_range r.pair.b r.pair.a ray h in subst (λ (s : Ray). IsSideInRange (sizes_of_plan p) s.first × IsSideInRange (sizes_of_plan p) s.last) (sym e) (k.1, k.0)
 
-  pub rays_in_range : (rays : List PairRay) → DecidesRays p rs rays → AllByRecursion (IsRayInRange (sizes_of p)) rays
-  rays_in_range rays d = all_of (IsRayInRange (sizes_of p)) rays (λ r c. let h = d.each r c in let k = ray_in_range r h.2 in ((h.0, h.1), k.0, k.1))
+  pub rays_in_range : (rays : List PairRay) → DecidesRays p rs rays → AllByRecursion (IsRayInRange (sizes_of_plan p)) rays
+  rays_in_range rays d = all_of (IsRayInRange (sizes_of_plan p)) rays (λ r c. let h = d.each r c in let k = ray_in_range r h.2 in ((h.0, h.1), k.0, k.1))
 
 -- ---- trees
 
@@ -102,7 +102,7 @@ all_zero : (n : ℕ) → AllByRecursion (λ (x : ℕ). x ≡ 0) (replicate n 0)
 all_zero zero = tt
 all_zero (suc n) = (refl, all_zero n)
 
-node_in_order : (n : Node) → IsAnswered n → IsNodeInOrder n
+node_in_order : (n : Node) → IsNodeAnswered n → IsNodeInOrder n
 node_in_order Open h = tt
 node_in_order (Blocked e) (pairs, v) = record {
   least = v.two;
@@ -111,19 +111,19 @@ node_in_order (Blocked e) (pairs, v) = record {
   unused = subst (λ (xs : List ℕ). AllByRecursion (λ (x : ℕ). x ≡ 0) xs) (sym v.unused) (all_zero (4 - e.count));
 }
 
-pub nodes_in_order : (ns : List Node) → AllByRecursion IsAnswered ns → AllByRecursion IsNodeInOrder ns
+pub nodes_in_order : (ns : List Node) → AllByRecursion IsNodeAnswered ns → AllByRecursion IsNodeInOrder ns
 nodes_in_order [] h = tt
 nodes_in_order (n ∷ ns) h = (node_in_order n h.0, nodes_in_order ns h.1)
 
-tree_in_range : (p : PlanParts) (source : ℕ) (t : Tree) → source < p.sectors → IsTreeFrom source t → IsTreeInRange (sizes_of p) t
-tree_in_range p source t lt is = (subst (λ (n : ℕ). n < p.sectors) (sym is.source_is) lt, nodes_in_order t.nodes (recursion_from_All IsAnswered t.nodes is.nodes))
+tree_in_range : (p : PlanParts) (source : ℕ) (t : Tree) → source < p.sectors → IsTreeFrom source t → IsTreeInRange (sizes_of_plan p) t
+tree_in_range p source t lt is = (subst (λ (n : ℕ). n < p.sectors) (sym is.source_is) lt, nodes_in_order t.nodes (recursion_from_All IsNodeAnswered t.nodes is.nodes))
 
 -- a fact of each tree
 each_tree : (P : Tree → Type 0) (rs : List SourceResult) → AllByRecursion (λ (r : SourceResult). (t : Tree) → r.outcome ≡ outcome.Complete t → P t) rs → AllByRecursion P (trees_of rs)
 each_tree P [] h = tt
 each_tree P (r ∷ rs) h = subst (λ (ts : List Tree). AllByRecursion P ts) (sym (trees_cons r rs)) (first r.outcome refl (each_tree P rs h.1))
   where
-    first : (o : Outcome) → r.outcome ≡ o → AllByRecursion P (trees_of rs) → AllByRecursion P (tree_of o ++ trees_of rs)
+    first : (o : Outcome) → r.outcome ≡ o → AllByRecursion P (trees_of rs) → AllByRecursion P (tree_of_outcome o ++ trees_of rs)
     first (outcome.Complete t) e rest = (h.0 t e, rest)
     first outcome.Spent e rest = rest
     first outcome.All e rest = rest
@@ -132,8 +132,8 @@ pub tree_of_source : (p : PlanParts) (rs : List SourceResult) → AreResults p r
 tree_of_source p rs are k r h t e = subst (λ (o : Outcome). HasItsTree k o) e (are.each k r h).tree
 
 module _ (p : PlanParts) (rs : List SourceResult) (are : AreResults p rs) where
-  pub trees_in_range : AllByRecursion (IsTreeInRange (sizes_of p)) (trees_of rs)
-  trees_in_range = each_tree (IsTreeInRange (sizes_of p)) rs (recursion_from_All (λ (r : SourceResult). (t : Tree) → r.outcome ≡ outcome.Complete t → IsTreeInRange (sizes_of p) t) rs (λ k d lt t e.
+  pub trees_in_range : AllByRecursion (IsTreeInRange (sizes_of_plan p)) (trees_of rs)
+  trees_in_range = each_tree (IsTreeInRange (sizes_of_plan p)) rs (recursion_from_All (λ (r : SourceResult). (t : Tree) → r.outcome ≡ outcome.Complete t → IsTreeInRange (sizes_of_plan p) t) rs (λ k d lt t e.
       tree_in_range p k t (subst (λ (n : ℕ). k < n) are.count lt) (tree_of_source p rs are k (get_or rs k d) (slice_get-get_or rs k d lt) t e)))
 
 -- trees behind the first so many sources are of later ones
@@ -162,7 +162,7 @@ trees_rise (r ∷ rs) has up = subst (λ (ts : List Tree). Ascends (λ (t u : Tr
     behind : AllByRecursion (λ (s : SourceResult). r.source < s.source) rs
     behind = recursion_from_All (λ (s : SourceResult). r.source < s.source) rs (λ k d lt. up 0 (suc k) r (get_or rs k d) (omega arith) refl (slice_get-get_or rs k d lt))
 
-    first : (o : Outcome) → r.outcome ≡ o → Ascends (λ (t u : Tree). t.source < u.source) (trees_of rs) → Ascends (λ (t u : Tree). t.source < u.source) (tree_of o ++ trees_of rs)
+    first : (o : Outcome) → r.outcome ≡ o → Ascends (λ (t u : Tree). t.source < u.source) (trees_of rs) → Ascends (λ (t u : Tree). t.source < u.source) (tree_of_outcome o ++ trees_of rs)
     first (outcome.Complete t) e rest =
         let is : IsTreeFrom r.source t = subst (λ (o : Outcome). HasItsTree r.source o) e has.0 in
         ascend_cons (λ (t u : Tree). t.source < u.source) t (trees_of rs) (subst (λ (n : ℕ). AllByRecursion (λ (u : Tree). n < u.source) (trees_of rs)) (sym is.source_is) (later_trees r.source rs has.1 behind)) rest
@@ -176,8 +176,8 @@ trees_ascend p rs are = trees_rise rs
 
 -- ---- the certificate
 
-pub cert_in_order : (p : PlanParts) → IsPlan p → (budget : Budget) (v : Verdicts) → AreVerdicts p budget v → (triangles : List Labelled) → length triangles ≤ most_triangles (length p.points) → AreTriangles (length p.points) (map (λ (l : Labelled). l.triangle) triangles) → AllByRecursion (λ (l : Labelled). l.sector < p.sectors) triangles
-    → IsInOrder (record { sizes = sizes_of p; triangles = triangles; rays = v.rays; listed = []; trees = v.trees })
+pub cert_in_order : (p : PlanParts) → IsPlan p → (budget : Budget) (v : Verdicts) → AreWalkVerdicts p budget v → (triangles : List Labelled) → length triangles ≤ most_triangles (length p.points) → AreTriangles (length p.points) (map (λ (l : Labelled). l.triangle) triangles) → AllByRecursion (λ (l : Labelled). l.sector < p.sectors) triangles
+    → IsOneInOrder (record { sizes = sizes_of_plan p; triangles = triangles; rays = v.rays; listed = []; trees = v.trees })
 cert_in_order p plan budget v are triangles few ascend below = record {
   few = few;
   triangles = ascend;
@@ -186,7 +186,7 @@ cert_in_order p plan budget v are triangles few ascend below = record {
   rays_ascend = are.rays.ascend;
   listed = tt;
   listed_ascend = λ i j x y lt at too. absurd (none-some x at);
-  trees = subst (λ (ts : List Tree). AllByRecursion (IsTreeInRange (sizes_of p)) ts) (sym are.trees) (trees_in_range p are.results are.walks.results);
+  trees = subst (λ (ts : List Tree). AllByRecursion (IsTreeInRange (sizes_of_plan p)) ts) (sym are.trees) (trees_in_range p are.results are.walks.results);
   trees_ascend = subst (λ (ts : List Tree). Ascends (λ (t u : Tree). t.source < u.source) ts) (sym are.trees) (trees_ascend p are.results are.walks.results);
 }
 
@@ -197,11 +197,11 @@ same_parts sizes own triangles rays found listed trees walked a b c d = cc
 -- ---- the trees
 
 -- the trees of walks that went to their ends are whole
-pub whole_trees : (p : PlanParts) (ts : List Triangle) (ls : List (Option ℕ)) (rs : List SourceResult) → AreShown p ts ls rs → AreWholeTrees p ts ls (trees_of rs)
+pub whole_trees : (p : PlanParts) (ts : List Triangle) (ls : List (Option ℕ)) (rs : List SourceResult) → AreWalksShown p ts ls rs → AreWholeTrees p ts ls (trees_of rs)
 whole_trees p ts ls [] h = tt
-whole_trees p ts ls (r ∷ rs) h = subst (AreWholeTrees p ts ls) (sym (trees_cons r rs)) (all_join (λ (t : Tree). (opened : List ℕ) × IsWholeTree (map_of p) ts ls t opened) (tree_of r.outcome) (trees_of rs) (of r.outcome h.0) (whole_trees p ts ls rs h.1))
+whole_trees p ts ls (r ∷ rs) h = subst (AreWholeTrees p ts ls) (sym (trees_cons r rs)) (all_join (λ (t : Tree). (opened : List ℕ) × IsWholeTree (map_of p) ts ls t opened) (tree_of_outcome r.outcome) (trees_of rs) (of r.outcome h.0) (whole_trees p ts ls rs h.1))
   where
-    of : (o : Outcome) → IsShown p ts ls r.found o → AreWholeTrees p ts ls (tree_of o)
+    of : (o : Outcome) → ShowsIfComplete p ts ls r.found o → AreWholeTrees p ts ls (tree_of_outcome o)
     of (outcome.Complete t) s = ((s.opened, s.whole), tt)
     of outcome.Spent s = tt
     of outcome.All s = tt

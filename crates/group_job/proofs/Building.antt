@@ -7,9 +7,9 @@ use Rattle.sight_names.specs.Mesh.{IsGoodMesh}
 use Rattle.sight_names.specs.Plan.{PlanParts, IsPlan}
 use Rattle.block_evidence.specs.declared.sight_tree.Tree.{Tree}
 use Rattle.face_groups.specs.TriSectors.Components.{AreComponents}
-use Rattle.cert_format.specs.Grammar.{IsInOrder}
+use Rattle.cert_format.specs.Grammar.{IsOneInOrder}
 use Rattle.cert_format.specs.Parts.{CertParts}
-use Rattle.cert_format.specs.Sizes.{sizes_of}
+use Rattle.cert_format.specs.Sizes.{sizes_of_plan}
 use Rattle.pair_budget.specs.declared.results.SourceResult.{SourceResult}
 use Rattle.pair_budget.specs.declared.results.Verdicts.{Verdicts}
 use Rattle.pair_budget.specs.Decide.{DecidesTable, DecidesList, DecidesRays, trees_of}
@@ -17,7 +17,7 @@ use Rattle.pair_budget.specs.Decided.{AreExact, DecidesOver, TellsConnected}
 use Rattle.sight_workers.specs.declared.job.Job.{Job}
 use Rattle.sight_workers.specs.declared.view.Task.{Task}
 use Rattle.sight_workers.specs.Board.{task_for}
-use Rattle.group_job.specs.Results.{AreResultsOf, AreSetApart, AreShown, AreTreesOfUnspent, AreVerdicts, AreWholeTrees, IsBuiltOver}
+use Rattle.group_job.specs.Results.{AreResultsOf, AreSetApart, AreWalksShown, AreTreesOfUnspent, AreWalkVerdicts, AreWholeTrees, IsBuiltOver}
 use Rattle.group_job.specs.Faces.{AreFacesOf, faces_of_job}
 use Rattle.group_job.specs.Labelled.{labelled_of}
 use Rattle.group_job.specs.Sight.{AreRaysAlong}
@@ -40,10 +40,10 @@ module _ (j : Job) (plan : IsPlan j.plan.now) (faces : AreFacesOf j.plan.now (fa
   abbrev t : Task
   t = task_for j of.workers
 
-  abbrev pub are : AreVerdicts p j.budget v
+  abbrev pub are : AreWalkVerdicts p j.budget v
   are = record { results = rs; components = j.components.now; walks = walks_are t rs of.results of.walked; each_sector = each_sector; connected = connected; settled = of.settled; table = table; listed = listed; rays = rays; trees = trees }
 
-  shown : AreShown p ts ls rs
+  shown : AreWalksShown p ts ls rs
   shown = walks_shown t rs of.walked
 
   apart : AreSetApart p ts ls v
@@ -62,7 +62,7 @@ module _ (j : Job) (plan : IsPlan j.plan.now) (faces : AreFacesOf j.plan.now (fa
     decides : DecidesOver (map_of p) ts ls j.budget p.sectors v.table v.listed
     decides = over ts ls j.budget faces.good (walks_exact t rs of.walked) (tells_connected (map_of p) j.components.now connected)
 
-    pub built_over : (cert : CertParts) → cert.sizes ≡ sizes_of p → IsInOrder cert → cert.listed ≡ [] → cert.triangles ≡ labelled_of ts ls → cert.rays ≡ v.rays → cert.trees ≡ v.trees → IsBuiltOver p (faces_of_job j) j.budget (record { table = v.table; listed = v.listed; cert = cert })
+    pub built_over : (cert : CertParts) → cert.sizes ≡ sizes_of_plan p → IsOneInOrder cert → cert.listed ≡ [] → cert.triangles ≡ labelled_of ts ls → cert.rays ≡ v.rays → cert.trees ≡ v.trees → IsBuiltOver p (faces_of_job j) j.budget (record { table = v.table; listed = v.listed; cert = cert })
     built_over cert sizes in_order no_pairs kept same_rays same_trees = record {
       sectors = table.sectors;
       sizes = sizes;

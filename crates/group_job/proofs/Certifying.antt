@@ -14,7 +14,7 @@ use Rattle.sight_names.specs.Groups.{IsInGroup, unnamed}
 use Rattle.reject_bits.specs.Parts.{TableParts, Rejects}
 use Rattle.cert_format.specs.Accepted.{EitherClear, EitherSet, HasRay}
 use Rattle.cert_format.specs.Grammar.{IsPairInRange}
-use Rattle.cert_format.specs.Sizes.{sizes_of}
+use Rattle.cert_format.specs.Sizes.{sizes_of_plan}
 use Rattle.cert_format.specs.declared.cert_groups.cert.CertTwo.{CertTwo}
 use Rattle.cert_format.specs.declared.cert_groups.cert.AnyCert.{AnyCert}
 use Rattle.cert_format.specs.declared.cert_groups.cert.AnyCert.TheVariants.{Two}
@@ -39,7 +39,7 @@ module _ (p : PlanParts) (ask : Ask) (mg : MapOfGroups) (budget : Budget) (b : B
 
   -- ---- the order
 
-  sizes_too : b.cert.sizes ≡ grouped_sizes (sizes_of p) mg.groups
+  sizes_too : b.cert.sizes ≡ grouped_sizes (sizes_of_plan p) mg.groups
   sizes_too = h.built.sizes ∙ (λ i. record { sectors = h.grouped.map.sectors i; points = length (h.grouped.points i); lines = lines i })
     where
       lines : length mg.plan.lines ≡ length p.lines
@@ -53,7 +53,7 @@ module _ (p : PlanParts) (ask : Ask) (mg : MapOfGroups) (budget : Budget) (b : B
       let x = contains_at mg.groups at c in
       record { some = e.0; below = all_of (λ (a : ℕ). a < p.sectors) at (λ a k. of_sectors p h.grouped.plan mg.groups h.grouped.groups x.0 a (at, x.1, k)); ascend = e.4.ascend }
 
-  pub two_in_order : IsTwoInOrder (sizes_of p) two
+  pub two_in_order : IsTwoInOrder (sizes_of_plan p) two
   two_in_order = record {
     few = h.grouped.few;
     groups = all_of (IsGroupInOrder p.sectors) mg.groups group_in_order;
@@ -61,7 +61,7 @@ module _ (p : PlanParts) (ask : Ask) (mg : MapOfGroups) (budget : Budget) (b : B
     grouped = sizes_too;
     in_order = h.built.in_order;
     no_pairs = h.built.no_pairs;
-    listed = all_of (IsPairInRange (sizes_of p)) listed (λ q c. let x = (follow.listed q).0 c in (x.0, x.1));
+    listed = all_of (IsPairInRange (sizes_of_plan p)) listed (λ q c. let x = (follow.listed q).0 c in (x.0, x.1));
     listed_ascend = follow.ascend;
   }
 
@@ -195,9 +195,9 @@ pairs_below p ask mg budget b h q c =
 -- ---- all of it
 
 module _ (p : PlanParts) (ask : Ask) (mg : MapOfGroups) (budget : Budget) (b : Built) (h : AreWalkedGroups p ask mg budget b) (table : TableParts) (listed : List Pair) (follow : FollowGroups b.table b.listed mg.groups p.sectors table listed) where
-  pub is_group_build : IsGroupBuild p ask (record { table = table; listed = listed; cert = Two (two p ask mg budget b h table listed follow) (sizes_of p) })
+  pub is_group_build : IsGroupBuild p ask (record { table = table; listed = listed; cert = Two (two p ask mg budget b h table listed follow) (sizes_of_plan p) })
   is_group_build =
-      let all : AnyCert = Two (two p ask mg budget b h table listed follow) (sizes_of p) in record {
+      let all : AnyCert = Two (two p ask mg budget b h table listed follow) (sizes_of_plan p) in record {
         sectors = follow.sectors_are;
         sizes = refl;
         in_order = two_in_order p ask mg budget b h table listed follow;

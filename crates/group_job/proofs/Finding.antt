@@ -11,24 +11,24 @@ use Rattle.sight_names.specs.Mesh.{IsGoodMesh}
 use Rattle.sight_names.specs.Sees.{Sees}
 use Rattle.sight_names.specs.Sound.{LinesMeetAtEnds}
 use Rattle.sight_names.specs.Sequence.{Portal, Sequence, reached, roots}
-use Rattle.sight_names.specs.Found.{Found, IsStabbableSequence, IsWithin, Reaches}
+use Rattle.sight_names.specs.Found.{Found, IsStabbableSequence, IsWithinBudget, Reaches}
 use Rattle.sight_names.proofs.Lists.{contains_of_get}
 use Rattle.mesh_base.proofs.SightLaws.SightLaws.{sees_itself}
 use Rattle.sight_lift.proofs.LiftLaws.{sight_is_lifted}
 use Rattle.sight_lift.proofs.Sequences.{root_is}
-use Rattle.sight_lift.specs.SequenceLaws.InOrder.{IsInOrder}
+use Rattle.sight_lift.specs.SequenceLaws.InOrder.{AreSequencesInOrder}
 use Rattle.sight_lift.proofs.SequenceLaws.All.{stand_in_order}
 
 module _ (m : Map) (ts : List Triangle) (ls : List (Option ℕ)) (good : IsGoodMesh m ts ls) (a b : ℕ) (budget : Budget) where
-  order : IsInOrder m ts ls a
+  order : AreSequencesInOrder m ts ls a
   order = stand_in_order m ts ls a good
 
   -- the sequence at this place finds it
   abbrev IsHit : ℕ → Type 0
-  IsHit i = (s : Sequence) × (slice_get order.all i ≡ Some s) × IsWithin m ts ls budget i × Reaches m ts ls a s b
+  IsHit i = (s : Sequence) × (slice_get order.all i ≡ Some s) × IsWithinBudget m ts ls budget i × Reaches m ts ls a s b
 
-  within_or_not : (c : Budget) (i : ℕ) → IsWithin m ts ls c i ⊎ ¬ IsWithin m ts ls c i
-  within_or_not (Of n) i = elim (below_or_not i n) as (λ _. IsWithin m ts ls (Of n) i ⊎ ¬ IsWithin m ts ls (Of n) i) [ inl lt ↦ inl lt | inr ge ↦ inr (λ lt. omega (arith, lt, ge)) ]
+  within_or_not : (c : Budget) (i : ℕ) → IsWithinBudget m ts ls c i ⊎ ¬ IsWithinBudget m ts ls c i
+  within_or_not (Of n) i = elim (below_or_not i n) as (λ _. IsWithinBudget m ts ls (Of n) i ⊎ ¬ IsWithinBudget m ts ls (Of n) i) [ inl lt ↦ inl lt | inr ge ↦ inr (λ lt. omega (arith, lt, ge)) ]
   within_or_not Full i = inl tt
 
   reaches_or_not : (s : Sequence) → IsStabbableSequence m ts ls a s → Reaches m ts ls a s b ⊎ ¬ Reaches m ts ls a s b
@@ -47,7 +47,7 @@ module _ (m : Map) (ts : List Triangle) (ls : List (Option ℕ)) (good : IsGoodM
   hit_or_not : (i : ℕ) → IsHit i ⊎ ¬ IsHit i
   hit_or_not i = go (slice_get order.all i) refl
     where
-      at : (s : Sequence) → slice_get order.all i ≡ Some s → IsWithin m ts ls budget i → Reaches m ts ls a s b ⊎ ¬ Reaches m ts ls a s b → IsHit i ⊎ ¬ IsHit i
+      at : (s : Sequence) → slice_get order.all i ≡ Some s → IsWithinBudget m ts ls budget i → Reaches m ts ls a s b ⊎ ¬ Reaches m ts ls a s b → IsHit i ⊎ ¬ IsHit i
       at s e w (inl r) = inl (s, e, w, r)
       at s e w (inr n) = inr (λ h. n (subst (λ (x : Sequence). Reaches m ts ls a x b) (same_Some h.0 s (sym h.1 ∙ e)) h.3))
 

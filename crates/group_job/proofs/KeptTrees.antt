@@ -15,7 +15,7 @@ use Rattle.cert_format.specs.declared.cert.Labelled.{Labelled}
 use Rattle.cert_format.specs.Parts.{CertParts}
 use Rattle.cert_format.specs.Accepted.{HasTreeWithout}
 use Rattle.pair_budget.specs.declared.results.Verdicts.{Verdicts}
-use Rattle.group_job.specs.Results.{AreSetApart, AreWholeTrees, HasTreeAway, HasWholeTrees}
+use Rattle.group_job.specs.Results.{AreSetApart, AreWholeTrees, HasTreeKeepingFrom, HasWholeTrees}
 use Rattle.group_job.specs.Labelled.{labelled_of}
 use Rattle.group_job.proofs.LabelledTrees.{keeps_too, whole_too}
 
@@ -27,7 +27,7 @@ module _ (p : PlanParts) (plan : IsPlan p) (ts : List Triangle) (ls : List (Opti
       let k = whole_too (map_of p) (plan_is_map p plan) (plan_facts p plan) ts ls good t w.0 w.1 in
       (k.0, subst (λ (xs : List Labelled). IsWholeTree (map_of p) (map (λ (l : Labelled). l.triangle) xs) (map (λ (l : Labelled). Some l.sector) xs) t k.0) (sym kept) k.1)
 
-  away_too : (a b : ℕ) → HasTreeAway (map_of p) ts ls v.trees a b → HasTreeWithout (map_of p) c a b
+  away_too : (a b : ℕ) → HasTreeKeepingFrom (map_of p) ts ls v.trees a b → HasTreeWithout (map_of p) c a b
   away_too a b (t, there, source, keeps) = (
     t,
     subst (λ (xs : List Tree). Contains xs t) (sym trees) there,

@@ -6,7 +6,7 @@ use Rattle.std.proofs.lemmas.Option.{slice_get-get_or}
 use Rattle.sight_names.specs.declared.names.Triangle.{Triangle}
 use Rattle.sight_names.specs.Mesh.{IsAbove, AreTriangles, label_of}
 use Rattle.cert_format.specs.declared.cert.Labelled.{Labelled}
-use Rattle.group_job.specs.Labelled.{labelled_of, added}
+use Rattle.group_job.specs.Labelled.{labelled_of, labelled_if_any}
 use Rattle.math_base.proofs.Options.{some_is_same}
 
 abbrev triangle_list : List Labelled → List Triangle
@@ -48,19 +48,19 @@ below sectors (t ∷ ts) (None ∷ ls) h = below sectors ts ls (λ k a e. h (suc
 below sectors (t ∷ ts) (Some a ∷ ls) h = (h 0 a refl, below sectors ts ls (λ k b e. h (suc k) b e))
 
 pub one_more : (ts : List Triangle) (ls : List (Option ℕ)) (n : ℕ) (t : Triangle) (l : Option ℕ) → slice_get ts n ≡ Some t → slice_get ls n ≡ Some l
-    → labelled_of (take (suc n) ts) (take (suc n) ls) ≡ labelled_of (take n ts) (take n ls) ++ added t l
+    → labelled_of (take (suc n) ts) (take (suc n) ls) ≡ labelled_of (take n ts) (take n ls) ++ labelled_if_any t l
 one_more [] ls n t l h g = absurd cc
 one_more (u ∷ ts) [] n t l h g = absurd cc
 one_more (u ∷ ts) (k ∷ ls) zero t l h g = first u t k l (some_is_same u t h) (some_is_same k l g)
   where
-    first : (u t : Triangle) (k l : Option ℕ) → u ≡ t → k ≡ l → labelled_of (u ∷ []) (k ∷ []) ≡ added t l
-    first u t None l e f = subst (λ (x : Option ℕ). [] ≡ added t x) f refl
-    first u t (Some a) l e f = subst (λ (x : Option ℕ). labelled_of (u ∷ []) (Some a ∷ []) ≡ added t x) f (ap (λ (w : Triangle). added w (Some a)) e)
+    first : (u t : Triangle) (k l : Option ℕ) → u ≡ t → k ≡ l → labelled_of (u ∷ []) (k ∷ []) ≡ labelled_if_any t l
+    first u t None l e f = subst (λ (x : Option ℕ). [] ≡ labelled_if_any t x) f refl
+    first u t (Some a) l e f = subst (λ (x : Option ℕ). labelled_of (u ∷ []) (Some a ∷ []) ≡ labelled_if_any t x) f (ap (λ (w : Triangle). labelled_if_any w (Some a)) e)
 one_more (u ∷ ts) (None ∷ ls) (suc n) t l h g = one_more ts ls n t l h g
 one_more (u ∷ ts) (Some a ∷ ls) (suc n) t l h g = ap (λ (x : List Labelled). record { triangle = u; sector = a } ∷ x) (one_more ts ls n t l h g)
 
 pub one_more_at : (ts : List Triangle) (ls : List (Option ℕ)) (n : ℕ) (d : Triangle) (e : Option ℕ) → n < length ts → n < length ls
-    → labelled_of (take (n + 1) ts) (take (n + 1) ls) ≡ labelled_of (take n ts) (take n ls) ++ added (get_or ts n d) (get_or ls n e)
+    → labelled_of (take (n + 1) ts) (take (n + 1) ls) ≡ labelled_of (take n ts) (take n ls) ++ labelled_if_any (get_or ts n d) (get_or ls n e)
 one_more_at ts ls n d e p q = rw add-one (one_more ts ls n (get_or ts n d) (get_or ls n e) (slice_get-get_or ts n d p) (slice_get-get_or ls n e q))
 
 pub all_of_them : (ts : List Triangle) (ls : List (Option ℕ)) (n : ℕ) (found : List Labelled) → found ≡ labelled_of (take n ts) (take n ls) → length ts ≤ n → length ls ≤ n → found ≡ labelled_of ts ls

@@ -15,7 +15,7 @@ use Rattle.sight_lift.proofs.Doors.{has_name, named_is, step_over}
 use Rattle.sight_lift.proofs.Sequences.{IsRoot, root_is}
 use Rattle.block_evidence.specs.declared.sight_tree.Node.{Node}
 use Rattle.block_evidence.specs.declared.sight_tree.Tree.{Tree}
-use Rattle.block_evidence.specs.SightTree.WholeTree.{HasNoNode, HasNode, Answers, no_node, blocked, open_node, AnswersRoots, IsWholeTree, KeepsFrom}
+use Rattle.block_evidence.specs.SightTree.WholeTree.{HasNoNode, HasNode, NodesAnswer, no_node, blocked, open_node, AnswersRoots, IsWholeTree, KeepsFrom}
 use Rattle.group_job.specs.Labelled.{labelled_of}
 use Rattle.group_job.proofs.GoodLabelled.{triangle_list, label_list, found_too}
 use Rattle.math_base.proofs.Lists.{contains_here, last_pushed}
@@ -110,10 +110,10 @@ module _ (m : Map) (is_map : IsMap m) (facts : PointFacts m) (ts : List Triangle
     -- the nodes answer over the labelled triangles too
     record AnswersToo (ps : List Portal) (ns : List Node) (opened : List ℕ) : Type 0 where
       among : List ℕ
-      answers : Answers m us ms a ps ns among
+      answers : NodesAnswer m us ms a ps ns among
       labels : map (label_of ms) among ≡ map (label_of ls) opened
 
-    answers_too : (ps : List Portal) (ns : List Node) (opened : List ℕ) → Answers m ts ls a ps ns opened → (p : Portal) → last_or None ps ≡ Some p → LeadsOn p → AnswersToo ps ns opened
+    answers_too : (ps : List Portal) (ns : List Node) (opened : List ℕ) → NodesAnswer m ts ls a ps ns opened → (p : Portal) → last_or None ps ≡ Some p → LeadsOn p → AnswersToo ps ns opened
     answers_too ps ns opened (no_node q last none e o) p at on = record { among = []; answers = no_node q last (no_node_too q none) e refl; labels = sym (ap (map (label_of ls)) o) }
     answers_too ps ns opened (blocked q k evidence has blocks e o) p at on =
         let n = node_too ps q k has (subst LeadsOn (same_Some p q (sym at ∙ has.last)) on) in

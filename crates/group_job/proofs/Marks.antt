@@ -6,7 +6,7 @@ use Rattle.std.proofs.lemmas.Nat.Bits.{bit_at-zero}
 use Rattle.math_base.proofs.Numbers.{below_or_last, below_or_not}
 use Rattle.reject_bits.specs.Parts.{TableParts, Rejects, SetsPair, KeepsOtherPairs}
 use Rattle.pair_budget.proofs.FoundSectorsLaws.{same_or_other}
-use Rattle.group_job.specs.Marks.{SetsMore, OfSteps, HasSteps}
+use Rattle.group_job.specs.Marks.{SetsMore, OfSteps, HasStepBits}
 
 -- ---- a table without a bit
 
@@ -89,10 +89,10 @@ module _ (step : ℕ → ℕ → ℕ → Type 0) where
       back a b w = elim (below_or_not w.0 n) as (λ _. OfSteps step n a b) [ inl lt ↦ (w.0, lt, w.2) | inr past ↦ absurd (none w.0 past w.1 a b w.2) ]
 
   -- the same from a table without a bit
-  pub steps_none : (sectors n : ℕ) (t : TableParts) → t.n ≡ sectors → t.bytes ≡ replicate n 0 → HasSteps step 0 sectors t
+  pub steps_none : (sectors n : ℕ) (t : TableParts) → t.n ≡ sectors → t.bytes ≡ replicate n 0 → HasStepBits step 0 sectors t
   steps_none sectors n t size none = record { sectors_are = size; bits = λ a b la lb. (λ bit. absurd (clear_has_none t n none a b bit), λ w. let lt = w.1 in absurd (omega (arith, lt))) }
 
-  pub steps_next : (n sectors : ℕ) (mid new : TableParts) → HasSteps step n sectors mid → SetsMore (step n) mid new → HasSteps step (n + 1) sectors new
+  pub steps_next : (n sectors : ℕ) (mid new : TableParts) → HasStepBits step n sectors mid → SetsMore (step n) mid new → HasStepBits step (n + 1) sectors new
   steps_next n sectors mid new before more = record {
     sectors_are = more.sectors ∙ before.sectors_are;
     bits = λ a b la lb.

@@ -8,14 +8,14 @@ use Rattle.sight_names.proofs.Lists.{contains_of_get}
 use Rattle.sight_names.specs.declared.names.Pair.{Pair}
 use Rattle.sight_names.specs.Order.{PairBefore}
 use Rattle.reject_bits.specs.Parts.{TableParts}
-use Rattle.pair_budget.specs.Rows.{IsEarlier}
+use Rattle.pair_budget.specs.Rows.{IsPairBefore}
 use Rattle.pair_budget.proofs.FoundSectorsLaws.{same_or_other, pair_is}
 use Rattle.pair_budget.proofs.RowLaws.{later, earlier, this_place, next_row, whole_row}
-use Rattle.group_job.specs.Rows.{IsBetween, ListedBefore}
+use Rattle.group_job.specs.Rows.{IsBitBetween, ListedBefore}
 use Rattle.group_job.specs.Sectors.{ListsBetween}
 
 module _ (these others : TableParts) where
-  pub list_skip : (a b m : ℕ) (xs : List Pair) → b ≤ m → ListedBefore these others a b xs → ((d : ℕ) → b ≤ d → d < m → ¬ IsBetween these others a d) → ListedBefore these others a m xs
+  pub list_skip : (a b m : ℕ) (xs : List Pair) → b ≤ m → ListedBefore these others a b xs → ((d : ℕ) → b ≤ d → d < m → ¬ IsBitBetween these others a d) → ListedBefore these others a m xs
   list_skip a b m xs le before none = record {
     exactly = λ q. (
       (λ c. let h = (before.exactly q).0 c in (h.0, further q.a q.b h.1)),
@@ -24,28 +24,28 @@ module _ (these others : TableParts) where
     ascend = before.ascend;
   }
     where
-      further : (c d : ℕ) → IsEarlier c d a b → IsEarlier c d a m
+      further : (c d : ℕ) → IsPairBefore c d a b → IsPairBefore c d a m
       further c d (inl h) = inl h
       further c d (inr h) = inr (h.0, (let lt = h.1 in omega (arith, lt, le)))
 
-      nearer : (c d : ℕ) → IsBetween these others c d → IsEarlier c d a m → IsEarlier c d a b
+      nearer : (c d : ℕ) → IsBitBetween these others c d → IsPairBefore c d a m → IsPairBefore c d a b
       nearer c d l (inl h) = inl h
       nearer c d l (inr h) = elim (below_or_not d b) [
         | inl lt ↦ inr (h.0, lt)
-        | inr past ↦ absurd (none d past h.1 (subst (λ (u : ℕ). IsBetween these others u d) h.0 l))
+        | inr past ↦ absurd (none d past h.1 (subst (λ (u : ℕ). IsBitBetween these others u d) h.0 l))
       ]
 
-  pub list_push : (a b : ℕ) (xs : List Pair) → ListedBefore these others a b xs → IsBetween these others a b → ListedBefore these others a (b + 1) (xs ++ record { a = a; b = b } ∷ [])
+  pub list_push : (a b : ℕ) (xs : List Pair) → ListedBefore these others a b xs → IsBitBetween these others a b → ListedBefore these others a (b + 1) (xs ++ record { a = a; b = b } ∷ [])
   list_push a b xs before l = record {
     exactly = λ q. ((λ c. into q (Contains-push_cases xs (record { a = a; b = b }) q c)), (λ h. out q h (same_or_other q.a q.b a b)));
     ascend = λ i j x y lt h k. up i j x y lt (pushed_at xs (record { a = a; b = b }) x i h) (pushed_at xs (record { a = a; b = b }) y j k);
   }
     where
-      into : (q : Pair) → Contains xs q ⊎ (record { a = a; b = b } ≡ q) → IsBetween these others q.a q.b × IsEarlier q.a q.b a (b + 1)
+      into : (q : Pair) → Contains xs q ⊎ (record { a = a; b = b } ≡ q) → IsBitBetween these others q.a q.b × IsPairBefore q.a q.b a (b + 1)
       into q (inl c) = let h = (before.exactly q).0 c in (h.0, later q.a q.b a b h.1)
-      into q (inr e) = subst (λ (r : Pair). IsBetween these others r.a r.b × IsEarlier r.a r.b a (b + 1)) e (l, this_place a b)
+      into q (inr e) = subst (λ (r : Pair). IsBitBetween these others r.a r.b × IsPairBefore r.a r.b a (b + 1)) e (l, this_place a b)
 
-      out : (q : Pair) → IsBetween these others q.a q.b × IsEarlier q.a q.b a (b + 1) → ((q.a ≡ a) × (q.b ≡ b)) ⊎ ((q.a ≢ a) ⊎ (q.b ≢ b)) → Contains (xs ++ record { a = a; b = b } ∷ []) q
+      out : (q : Pair) → IsBitBetween these others q.a q.b × IsPairBefore q.a q.b a (b + 1) → ((q.a ≡ a) × (q.b ≡ b)) ⊎ ((q.a ≢ a) ⊎ (q.b ≢ b)) → Contains (xs ++ record { a = a; b = b } ∷ []) q
       out q h (inl same) = subst (λ (r : Pair). Contains (xs ++ record { a = a; b = b } ∷ []) r) (sym (pair_is q a b same.0 same.1)) (Contains-push xs (record { a = a; b = b }))
       out q h (inr o) = Contains-append_left xs (record { a = a; b = b } ∷ []) q ((before.exactly q).1 (h.0, earlier q.a q.b a b o h.1))
 
@@ -62,11 +62,11 @@ module _ (these others : TableParts) where
     ascend = before.ascend;
   }
     where
-      grown : (c d : ℕ) → IsEarlier c d a 0 → IsEarlier c d a (a + 1)
+      grown : (c d : ℕ) → IsPairBefore c d a 0 → IsPairBefore c d a (a + 1)
       grown c d (inl h) = inl h
       grown c d (inr h) = let k = h.1 in absurd (omega (arith, k))
 
-      shrunk : (c d : ℕ) → c < d → IsEarlier c d a (a + 1) → IsEarlier c d a 0
+      shrunk : (c d : ℕ) → c < d → IsPairBefore c d a (a + 1) → IsPairBefore c d a 0
       shrunk c d lt (inl h) = inl h
       shrunk c d lt (inr h) = let e = h.0 in let k = h.1 in absurd (omega (arith, lt, e, k))
 

@@ -21,7 +21,7 @@ use Rattle.face_groups.proofs.GroupsBase.Ordered.{at_contains}
 use Rattle.triangulate.proofs.GroupLaws.WholeLaws.{bits_by_groups, sectors_see_by_groups}
 use Rattle.group_job.specs.declared.walked.Built.{Built}
 use Rattle.group_job.specs.declared.build.GroupBuilt.{GroupBuilt}
-use Rattle.group_job.specs.Built.{DecidesByGroups, IsSymmetric, TellsSectors}
+use Rattle.group_job.specs.Built.{DecidesByGroups, IsBuiltSymmetric, TellsSectors}
 use Rattle.group_job.specs.Walked.{AreWalkedGroups}
 use Rattle.group_job.specs.declared.grouped.MapOfGroups.{MapOfGroups}
 use Rattle.group_job.specs.Sectors.{AreListed, AreClearByGroups, AreOfSectors, AreSeenByGroups, FollowGroups}
@@ -152,7 +152,7 @@ module _ (p : PlanParts) (ask : Ask) (mg : MapOfGroups) (budget : Budget) (b : B
     abbrev all : GroupBuilt
     all = record { table = table; listed = listed; cert = cert }
 
-    pub symmetric : IsSymmetric all
+    pub symmetric : IsBuiltSymmetric all
     symmetric x y lx ly = bits_back x y (subst (λ (n : ℕ). x < n) follow.sectors_are lx) (subst (λ (n : ℕ). y < n) follow.sectors_are ly)
 
     pub decides_by_groups : DecidesByGroups (map_of p) ask all

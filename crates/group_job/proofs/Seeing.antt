@@ -31,13 +31,13 @@ use Rattle.cert_checker.proofs.SightRays.{open_is_sight}
 use Rattle.pair_budget.specs.declared.results.Reached.{Reached}
 use Rattle.pair_budget.specs.declared.results.SourceResult.{SourceResult}
 use Rattle.pair_budget.specs.declared.results.Verdicts.{Verdicts}
-use Rattle.pair_budget.specs.Decide.{AreResults, IsFoundBy, IsRayOf, turned}
+use Rattle.pair_budget.specs.Decide.{AreResults, IsFoundBy, IsRayOfResults, turned_ray}
 use Rattle.pair_budget.specs.Decided.{DecidesOver, IsUnseen}
 use Rattle.pair_budget.specs.Through.{IsRayThrough}
 use Rattle.pair_budget.proofs.FoundSectorsLaws.{reached_by}
 use Rattle.sight_workers.specs.declared.view.Task.{Task}
 use Rattle.sight_workers.specs.Teams.{AreWalked}
-use Rattle.group_job.specs.Results.{AreVerdicts}
+use Rattle.group_job.specs.Results.{AreWalkVerdicts}
 use Rattle.group_job.specs.Sight.{AreAllThrough, IsFoundAlong, IsRayAlong, AreRaysAlong, HasSightRays, TellsWhoSees}
 use Rattle.group_job.proofs.VerdictLaws.{cert_rays, both_bits_of}
 use Rattle.math_base.proofs.Numbers.{same_below_or_above, below_or_not}
@@ -68,9 +68,9 @@ module _ (p : PlanParts) (ts : List Triangle) (ls : List (Option ℕ)) (rs : Lis
   found_along : (a b : ℕ) (ray : Ray) → IsFoundBy rs a b ray → (x : Reached) × IsFoundAlong p ts ls a x × (x.to ≡ b) × (x.ray ≡ ray)
   found_along a b ray (w, x, h, c, to, is) = (x, record { is_reached = reached_by p rs are a w x h c; is_through = through a w h x c }, to, is)
 
-  pub ray_along : (r : PairRay) → IsRayOf rs r → IsRayAlong p ts ls r
+  pub ray_along : (r : PairRay) → IsRayOfResults rs r → IsRayAlong p ts ls r
   ray_along r (inl h) = inl (found_along r.pair.a r.pair.b r.ray h)
-  ray_along r (inr (ray, h, e)) = let f = found_along r.pair.b r.pair.a ray h in inr (f.0, f.1, f.2, e ∙ ap turned (sym f.3))
+  ray_along r (inr (ray, h, e)) = let f = found_along r.pair.b r.pair.a ray h in inr (f.0, f.1, f.2, e ∙ ap turned_ray (sym f.3))
 
 -- ---- sectors that no walk found
 
@@ -135,7 +135,7 @@ is_named_or_not m a = at (named_or_not m.lines a)
 
 -- ---- what the build tells
 
-module _ (p : PlanParts) (plan : IsPlan p) (ends : LinesMeetAtEnds (map_of p)) (ts : List Triangle) (ls : List (Option ℕ)) (good : IsGoodMesh (map_of p) ts ls) (budget : Budget) (v : Verdicts) (are : AreVerdicts p budget v) (over : DecidesOver (map_of p) ts ls budget p.sectors v.table v.listed)
+module _ (p : PlanParts) (plan : IsPlan p) (ends : LinesMeetAtEnds (map_of p)) (ts : List Triangle) (ls : List (Option ℕ)) (good : IsGoodMesh (map_of p) ts ls) (budget : Budget) (v : Verdicts) (are : AreWalkVerdicts p budget v) (over : DecidesOver (map_of p) ts ls budget p.sectors v.table v.listed)
     (along : AreRaysAlong p ts ls v.rays) (cert : CertParts) (rays : cert.rays ≡ v.rays) where
   pub has_sight_rays : HasSightRays (map_of p) cert
   has_sight_rays r c = sight_ray_along p plan ts ls good r (along r (subst (λ (rs : List PairRay). Contains rs r) rays c))

@@ -6,7 +6,7 @@ use Rattle.sight_names.specs.Groups.{IsInGroup}
 use Rattle.face_groups.proofs.GroupsBase.Ordered.{at_contains, contains_at}
 use Rattle.pair_budget.proofs.FoundSectorsLaws.{pair_is}
 use Rattle.reject_bits.specs.Parts.{TableParts, Rejects}
-use Rattle.group_job.specs.Marks.{SetsMore, OfSteps, HasSteps}
+use Rattle.group_job.specs.Marks.{SetsMore, OfSteps, HasStepBits}
 use Rattle.group_job.specs.Sectors.{AreListed, AreListedByGroups, HasClearPairs}
 use Rattle.group_job.proofs.Marks.{sets_as, sets_then}
 use Rattle.group_job.proofs.Following.{in_table}
@@ -65,7 +65,7 @@ clear_row_set groups t f n old new count = sets_as (OfSteps (ClearStep groups t 
 abbrev pub ClearRowStep : List (List ℕ) → TableParts → ℕ → ℕ → ℕ → Type 0
 ClearRowStep groups t f c d = ClearRow groups t f c d
 
-pub clear_set : (groups : List (List ℕ)) (t : TableParts) (sectors n : ℕ) (marks : TableParts) → n ≡ length groups → HasSteps (ClearRowStep groups t) n sectors marks → HasClearPairs t groups sectors marks
+pub clear_set : (groups : List (List ℕ)) (t : TableParts) (sectors n : ℕ) (marks : TableParts) → n ≡ length groups → HasStepBits (ClearRowStep groups t) n sectors marks → HasClearPairs t groups sectors marks
 clear_set groups t sectors n marks count h = record {
   sectors_are = h.sectors_are;
   bits = λ a b la lb. let x = h.bits a b la lb in (

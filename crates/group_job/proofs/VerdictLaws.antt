@@ -22,16 +22,16 @@ use Rattle.pair_budget.specs.declared.results.Outcome.{Outcome}
 use Rattle.pair_budget.specs.declared.results.Outcome.TheVariants as outcome
 use Rattle.pair_budget.specs.declared.results.SourceResult.{SourceResult}
 use Rattle.pair_budget.specs.declared.results.Verdicts.{Verdicts}
-use Rattle.pair_budget.specs.Decide.{AreFound, IsListedPair, IsBlind, IsSpentSource, trees_of}
+use Rattle.pair_budget.specs.Decide.{AreFound, IsLeftUndecided, IsBlind, IsSpentSource, trees_of}
 use Rattle.pair_budget.specs.Decided.{AreExact, TellsConnected}
 use Rattle.pair_budget.specs.Exact.{EndsRightly}
 use Rattle.pair_budget.specs.PairRays.{HasRayFor}
-use Rattle.pair_budget.specs.Rows.{tree_of}
+use Rattle.pair_budget.specs.Rows.{tree_of_outcome}
 use Rattle.pair_budget.specs.Walked.{IsOutcome}
-use Rattle.pair_budget.specs.Whole.{IsOfFound, IsShown}
+use Rattle.pair_budget.specs.Whole.{IsOfFound, ShowsIfComplete}
 use Rattle.pair_budget.proofs.FoundSectorsLaws.{found_of_ray, same_or_other, pair_is}
 use Rattle.pair_budget.proofs.NamedLaws.{trees_cons}
-use Rattle.group_job.specs.Results.{AreShown, AreSetApart, AreTreesOfUnspent, AreVerdicts, HasTreeAway}
+use Rattle.group_job.specs.Results.{AreWalksShown, AreSetApart, AreTreesOfUnspent, AreWalkVerdicts, HasTreeKeepingFrom}
 use Rattle.group_job.proofs.BuildLaws.{tree_of_source}
 use Rattle.math_base.proofs.Lists.{all_so, all_at, contains_none, contains_here}
 use Rattle.math_base.proofs.Numbers.{same_or_not, below_or_above}
@@ -53,8 +53,8 @@ has_or_not (r ∷ rs) a b = at (same_or_other r.pair.a r.pair.b a b) (has_or_not
 -- the tree of a source that was walked wholly is one of the trees
 has_tree : (rs : List SourceResult) (k : ℕ) (r : SourceResult) (t : Tree) → slice_get rs k ≡ Some r → r.outcome ≡ outcome.Complete t → Contains (trees_of rs) t
 has_tree [] k r t h e = absurd cc
-has_tree (q ∷ rs) zero r t h e = subst (λ (ts : List Tree). Contains ts t) (sym (trees_cons q rs)) (Contains-append_left (tree_of q.outcome) (trees_of rs) t (subst (λ (o : Outcome). Contains (tree_of o) t) (sym (ap (λ (s : SourceResult). s.outcome) (same_Some q r h) ∙ e)) (contains_here t [])))
-has_tree (q ∷ rs) (suc k) r t h e = subst (λ (ts : List Tree). Contains ts t) (sym (trees_cons q rs)) (Contains-append_right (tree_of q.outcome) (trees_of rs) t (has_tree rs k r t h e))
+has_tree (q ∷ rs) zero r t h e = subst (λ (ts : List Tree). Contains ts t) (sym (trees_cons q rs)) (Contains-append_left (tree_of_outcome q.outcome) (trees_of rs) t (subst (λ (o : Outcome). Contains (tree_of_outcome o) t) (sym (ap (λ (s : SourceResult). s.outcome) (same_Some q r h) ∙ e)) (contains_here t [])))
+has_tree (q ∷ rs) (suc k) r t h e = subst (λ (ts : List Tree). Contains ts t) (sym (trees_cons q rs)) (Contains-append_right (tree_of_outcome q.outcome) (trees_of rs) t (has_tree rs k r t h e))
 
 result_at : (rs : List SourceResult) (k : ℕ) → k < length rs → (r : SourceResult) × (slice_get rs k ≡ Some r)
 result_at [] k h = absurd (omega arith)
@@ -96,11 +96,11 @@ tells_connected m cs are a b la lb = (
         let back = are.connected b (get_or cs a 0) (sym e ∙ ea) in
         connected_joined m a (get_or cs a 0) b (are.connected a (get_or cs a 0) ea) (connected_back m b back.0 (get_or cs a 0) back.1)
 
-module _ (p : PlanParts) (budget : Budget) (v : Verdicts) (are : AreVerdicts p budget v) where
+module _ (p : PlanParts) (budget : Budget) (v : Verdicts) (are : AreWalkVerdicts p budget v) where
   found_of_has : (a b : ℕ) → HasRayFor v.rays a b → AreFound are.results a b
   found_of_has a b (r, c, e) = subst (λ (q : Pair). AreFound are.results q.a q.b) e (found_of_ray are.results r (are.rays.each r c).2)
 
-  not_down : (a b : ℕ) → a < b → ¬ IsListedPair are.results are.components b a
+  not_down : (a b : ℕ) → a < b → ¬ IsLeftUndecided are.results are.components b a
   not_down a b lt l = let k = l.order in omega arith
 
   pub rays_of_clear : (a b : ℕ) → a < b → b < p.sectors → HasRayFor v.rays a b ↔ (¬ Rejects v.table a b × ¬ Contains v.listed (record { a = a; b = b }))
@@ -207,29 +207,29 @@ module _ (p : PlanParts) (budget : Budget) (v : Verdicts) (are : AreVerdicts p b
   found_back a b (inl k) = inr k
   found_back a b (inr k) = inl k
 
-  module _ (ts : List Triangle) (ls : List (Option ℕ)) (shown : AreShown p ts ls are.results) where
+  module _ (ts : List Triangle) (ls : List (Option ℕ)) (shown : AreWalksShown p ts ls are.results) where
     -- a tree enters what its walk found, and so no other sector
-    keeps : (a b : ℕ) → ¬ AreFound are.results a b → TreeOf a → HasTreeAway (map_of p) ts ls v.trees a b
+    keeps : (a b : ℕ) → ¬ AreFound are.results a b → TreeOf a → HasTreeKeepingFrom (map_of p) ts ls v.trees a b
     keeps a b none (t, there, source, (r, h, e)) =
-        let s = subst (λ (o : Outcome). IsShown p ts ls r.found o) e (all_at (λ (q : SourceResult). IsShown p ts ls q.found q.outcome) are.results shown a r h) in
+        let s = subst (λ (o : Outcome). ShowsIfComplete p ts ls r.found o) e (all_at (λ (q : SourceResult). ShowsIfComplete p ts ls q.found q.outcome) are.results shown a r h) in
         (t, there, source, (s.opened, s.whole, all_so (IsOfFound ls r.found) (λ (k : ℕ). label_of ls k ≢ Some b) s.opened other s.entered))
       where
         other : (k : ℕ) → IsOfFound ls r.found k → label_of ls k ≢ Some b
         other k (c, label, (x, found, to)) is = none (inl (x.ray, (r, x, h, found, to ∙ same_Some c b (sym label ∙ is), refl)))
 
-    away_of_unlisted : (a b : ℕ) → a < p.sectors → b < p.sectors → a < b → slice_get are.components a ≡ slice_get are.components b → ¬ AreFound are.results a b → ¬ IsListedPair are.results are.components a b
-        → HasTreeAway (map_of p) ts ls v.trees a b ⊎ HasTreeAway (map_of p) ts ls v.trees b a
+    away_of_unlisted : (a b : ℕ) → a < p.sectors → b < p.sectors → a < b → slice_get are.components a ≡ slice_get are.components b → ¬ AreFound are.results a b → ¬ IsLeftUndecided are.results are.components a b
+        → HasTreeKeepingFrom (map_of p) ts ls v.trees a b ⊎ HasTreeKeepingFrom (map_of p) ts ls v.trees b a
     away_of_unlisted a b la lb lt same none not_listed = by_first (tree_or_spent a la)
       where
         differ : a ≢ b
         differ e = omega arith
 
-        by_second : IsSpentSource are.results a → TreeOf b ⊎ (IsSpentSource are.results b ⊎ IsSettledSource b) → HasTreeAway (map_of p) ts ls v.trees a b ⊎ HasTreeAway (map_of p) ts ls v.trees b a
+        by_second : IsSpentSource are.results a → TreeOf b ⊎ (IsSpentSource are.results b ⊎ IsSettledSource b) → HasTreeKeepingFrom (map_of p) ts ls v.trees a b ⊎ HasTreeKeepingFrom (map_of p) ts ls v.trees b a
         by_second spent (inl t) = inr (keeps b a (λ f. none (found_back b a f)) t)
         by_second spent (inr (inl spent_too)) = absurd (not_listed (record { order = lt; within = subst (λ (n : ℕ). b < n) (sym are.each_sector) lb; connected = same; not_found = none; spent = spent; spent_too = spent_too }))
         by_second spent (inr (inr s)) = absurd (none (found_back b a (settled_found b a s la (λ e. differ (sym e)) (sym same))))
 
-        by_first : TreeOf a ⊎ (IsSpentSource are.results a ⊎ IsSettledSource a) → HasTreeAway (map_of p) ts ls v.trees a b ⊎ HasTreeAway (map_of p) ts ls v.trees b a
+        by_first : TreeOf a ⊎ (IsSpentSource are.results a ⊎ IsSettledSource a) → HasTreeKeepingFrom (map_of p) ts ls v.trees a b ⊎ HasTreeKeepingFrom (map_of p) ts ls v.trees b a
         by_first (inl t) = inl (keeps a b none t)
         by_first (inr (inl spent)) = by_second spent (tree_or_spent b lb)
         by_first (inr (inr s)) = absurd (none (settled_found a b s lb differ same))
@@ -237,17 +237,17 @@ module _ (p : PlanParts) (budget : Budget) (v : Verdicts) (are : AreVerdicts p b
     pub set_apart : AreSetApart p ts ls v
     set_apart a b la lb differ bit = by_blind ((are.table.bits a b la lb).0 bit)
       where
-        by_order : slice_get are.components a ≡ slice_get are.components b → ¬ AreFound are.results a b → ¬ (IsListedPair are.results are.components a b ⊎ IsListedPair are.results are.components b a) → (a < b) ⊎ (b < a)
-            → HasTreeAway (map_of p) ts ls v.trees a b ⊎ HasTreeAway (map_of p) ts ls v.trees b a
+        by_order : slice_get are.components a ≡ slice_get are.components b → ¬ AreFound are.results a b → ¬ (IsLeftUndecided are.results are.components a b ⊎ IsLeftUndecided are.results are.components b a) → (a < b) ⊎ (b < a)
+            → HasTreeKeepingFrom (map_of p) ts ls v.trees a b ⊎ HasTreeKeepingFrom (map_of p) ts ls v.trees b a
         by_order same none not_listed (inl lt) = away_of_unlisted a b la lb lt same none (λ l. not_listed (inl l))
         by_order same none not_listed (inr lt) = elim (away_of_unlisted b a lb la lt (sym same) (λ f. none (found_back b a f)) (λ l. not_listed (inr l))) [ inl k ↦ inr k | inr k ↦ inl k ]
 
-        by_component : ¬ AreFound are.results a b → ¬ (IsListedPair are.results are.components a b ⊎ IsListedPair are.results are.components b a) → (slice_get are.components a ≡ slice_get are.components b) ⊎ (slice_get are.components a ≢ slice_get are.components b)
-            → ¬ AreConnected (map_of p) a b ⊎ (HasTreeAway (map_of p) ts ls v.trees a b ⊎ HasTreeAway (map_of p) ts ls v.trees b a)
+        by_component : ¬ AreFound are.results a b → ¬ (IsLeftUndecided are.results are.components a b ⊎ IsLeftUndecided are.results are.components b a) → (slice_get are.components a ≡ slice_get are.components b) ⊎ (slice_get are.components a ≢ slice_get are.components b)
+            → ¬ AreConnected (map_of p) a b ⊎ (HasTreeKeepingFrom (map_of p) ts ls v.trees a b ⊎ HasTreeKeepingFrom (map_of p) ts ls v.trees b a)
         by_component none not_listed (inl same) = inr (by_order same none not_listed (below_or_above a b differ))
         by_component none not_listed (inr apart) = inl (not_connected a b la lb apart)
 
-        by_blind : IsBlind p are.results are.components a b → ¬ AreConnected (map_of p) a b ⊎ (HasTreeAway (map_of p) ts ls v.trees a b ⊎ HasTreeAway (map_of p) ts ls v.trees b a)
+        by_blind : IsBlind p are.results are.components a b → ¬ AreConnected (map_of p) a b ⊎ (HasTreeKeepingFrom (map_of p) ts ls v.trees a b ⊎ HasTreeKeepingFrom (map_of p) ts ls v.trees b a)
         by_blind (inl h) = absurd (differ h.0)
         by_blind (inr h) = by_component h.1 h.2 (same_or_apart are.components a b (subst (λ (n : ℕ). a < n) (sym are.each_sector) la) (subst (λ (n : ℕ). b < n) (sym are.each_sector) lb))
 

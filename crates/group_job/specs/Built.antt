@@ -18,7 +18,7 @@ use Rattle.mesh_shape.specs.Faults.{IsFirstSideAgainst}
 use Rattle.face_groups.specs.TriSectors.Verdict.{IsClosedSide}
 use Rattle.cert_format.specs.declared.cert.Sizes.{Sizes}
 use Rattle.cert_format.specs.Accepted.{HasRay}
-use Rattle.cert_format.specs.Sizes.{sizes_of}
+use Rattle.cert_format.specs.Sizes.{sizes_of_plan}
 use Rattle.cert_format.specs.CertGroups.Grammar.{IsAnyInOrder}
 use Rattle.cert_checker.specs.AcceptedGroups.Accepted.{IsAcceptedAny}
 use Rattle.cert_format.specs.declared.cert_groups.cert.CertTwo.{CertTwo}
@@ -29,15 +29,15 @@ use Rattle.face_groups.specs.declared.fault.GroupFault.TheVariants as fault
 use Rattle.group_job.specs.declared.build.GroupBuilt.{GroupBuilt}
 
 -- why a map gets no table: the least side that names a sector and whose face reaches outside
-abbrev pub IsGroupFault : Map → GroupFault → Type 0
-IsGroupFault m (fault.Open s) = IsFirstSideAgainst (IsClosedSide m) s
-IsGroupFault m (fault.Memory _) = ⊤
+abbrev pub IsOpenFace : Map → GroupFault → Type 0
+IsOpenFace m (fault.Open s) = IsFirstSideAgainst (IsClosedSide m) s
+IsOpenFace m (fault.Memory _) = ⊤
 
 -- ---- the sectors
 
 -- the two bits of a pair are one
-abbrev pub IsSymmetric : GroupBuilt → Type 0
-IsSymmetric b = (x y : ℕ) → x < b.table.n → y < b.table.n → Rejects b.table x y → Rejects b.table y x
+abbrev pub IsBuiltSymmetric : GroupBuilt → Type 0
+IsBuiltSymmetric b = (x y : ℕ) → x < b.table.n → y < b.table.n → Rejects b.table x y → Rejects b.table y x
 
 -- sectors whose bit is set don't see each other; those whose bit is clear do, unless their pair is listed
 pub record TellsSectors (m : Map) (b : GroupBuilt) : Type 0 where
@@ -55,9 +55,9 @@ pub record DecidesByGroups (m : Map) (ask : Ask) (b : GroupBuilt) : Type 0 where
 -- ---- the certificate
 
 -- it is of version 2, for a map of these sizes
-abbrev pub IsTwoOf : Sizes → AnyCert → Type 0
-IsTwoOf sizes (One c) = ⊥
-IsTwoOf sizes (Two c own) = own ≡ sizes
+abbrev pub IsTwoOfSizes : Sizes → AnyCert → Type 0
+IsTwoOfSizes sizes (One c) = ⊥
+IsTwoOfSizes sizes (Two c own) = own ≡ sizes
 
 -- so it is of the certificate of version 2
 abbrev pub OfTwo : (CertTwo → Type 0) → AnyCert → Type 0
@@ -100,11 +100,11 @@ HasTreesOfUnspent m ask c = (w : WalkedMap m ask c.groups) (f : ℕ) → f < len
 -- what is known of the build of a map within the budget that was asked for
 pub record IsGroupBuild (p : PlanParts) (ask : Ask) (b : GroupBuilt) : Type 0 where
   pub sectors : b.table.n ≡ p.sectors
-  pub sizes : IsTwoOf (sizes_of p) b.cert
+  pub sizes : IsTwoOfSizes (sizes_of_plan p) b.cert
   pub in_order : IsAnyInOrder b.cert
   pub groups : OfTwo (λ c. AreGroups (map_of p) c.groups) b.cert
   pub listed : OfTwo (λ c. c.listed ≡ b.listed) b.cert
-  pub symmetric : IsSymmetric b
+  pub symmetric : IsBuiltSymmetric b
   pub sight : TellsSectors (map_of p) b
   pub by_groups : DecidesByGroups (map_of p) ask b
   pub rays : OfTwo (HasRaysOfFound (map_of p) ask) b.cert

@@ -12,6 +12,6 @@ abbrev pub OfSteps : (ℕ → ℕ → ℕ → Type 0) → ℕ → ℕ → ℕ �
 OfSteps step n a b = (i : ℕ) × (i < n) × step i a b
 
 -- a table of so many sectors has the bits of the pairs of the first so many steps, and no others
-pub record HasSteps (step : ℕ → ℕ → ℕ → Type 0) (n sectors : ℕ) (t : TableParts) : Type 0 where
+pub record HasStepBits (step : ℕ → ℕ → ℕ → Type 0) (n sectors : ℕ) (t : TableParts) : Type 0 where
   pub sectors_are : t.n ≡ sectors
   pub bits : (a b : ℕ) → a < sectors → b < sectors → Rejects t a b ↔ OfSteps step n a b

@@ -14,14 +14,14 @@ use Rattle.block_evidence.specs.SightTree.WholeTree.{IsWholeTree, KeepsFrom}
 use Rattle.reject_bits.specs.Parts.{Rejects}
 use Rattle.cert_format.specs.Parts.{CertParts}
 use Rattle.cert_format.specs.Accepted.{HasRay, HasTreeWithout, IsNamed, triangles_of, labels_of}
-use Rattle.cert_format.specs.Grammar.{IsInOrder}
-use Rattle.cert_format.specs.Sizes.{sizes_of}
+use Rattle.cert_format.specs.Grammar.{IsOneInOrder}
+use Rattle.cert_format.specs.Sizes.{sizes_of_plan}
 use Rattle.pair_budget.specs.declared.results.SourceResult.{SourceResult}
 use Rattle.pair_budget.specs.declared.results.Verdicts.{Verdicts}
-use Rattle.pair_budget.specs.Decide.{AreResults, IsSettled, DecidesTable, DecidesList, DecidesRays, trees_of}
+use Rattle.pair_budget.specs.Decide.{AreResults, AreResultsSettled, DecidesTable, DecidesList, DecidesRays, trees_of}
 use Rattle.pair_budget.specs.Decided.{DecidesOver}
 use Rattle.pair_budget.specs.Walked.{IsOutcome}
-use Rattle.pair_budget.specs.Whole.{IsShown}
+use Rattle.pair_budget.specs.Whole.{ShowsIfComplete}
 use Rattle.sight_workers.specs.declared.job.Job.{Job}
 use Rattle.sight_workers.specs.Board.{task_for}
 use Rattle.sight_workers.specs.Teams.{AreWalked}
@@ -32,13 +32,13 @@ use Rattle.group_job.specs.Sight.{HasSightRays, TellsWhoSees}
 
 -- the walks of all sectors: each went to its end or, where there is one, to the end of its budget, or nothing was left
 -- that it could find
-pub record AreWalks (p : PlanParts) (budget : Budget) (rs : List SourceResult) : Type 0 where
+pub record AreWalksWithin (p : PlanParts) (budget : Budget) (rs : List SourceResult) : Type 0 where
   pub results : AreResults p rs
   pub outcomes : (k : ℕ) (r : SourceResult) → slice_get rs k ≡ Some r → IsOutcome k budget true r.outcome
 
 -- the tree of each walk that went to its end shows what that walk found
-abbrev pub AreShown : PlanParts → List Triangle → List (Option ℕ) → List SourceResult → Type 0
-AreShown p ts ls rs = AllByRecursion (λ (r : SourceResult). IsShown p ts ls r.found r.outcome) rs
+abbrev pub AreWalksShown : PlanParts → List Triangle → List (Option ℕ) → List SourceResult → Type 0
+AreWalksShown p ts ls rs = AllByRecursion (λ (r : SourceResult). ShowsIfComplete p ts ls r.found r.outcome) rs
 
 -- each of the trees is whole over the mesh
 abbrev pub AreWholeTrees : PlanParts → List Triangle → List (Option ℕ) → List Tree → Type 0
@@ -49,13 +49,13 @@ abbrev pub HasWholeTrees : Map → CertParts → Type 0
 HasWholeTrees m c = (t : Tree) → Contains c.trees t → (opened : List ℕ) × IsWholeTree m (triangles_of c) (labels_of c) t opened
 
 -- one of these trees is of a, and keeps from b
-abbrev pub HasTreeAway : Map → List Triangle → List (Option ℕ) → List Tree → ℕ → ℕ → Type 0
-HasTreeAway m ts ls trees a b = (t : Tree) × Contains trees t × (t.source ≡ a) × KeepsFrom m ts ls t b
+abbrev pub HasTreeKeepingFrom : Map → List Triangle → List (Option ℕ) → List Tree → ℕ → ℕ → Type 0
+HasTreeKeepingFrom m ts ls trees a b = (t : Tree) × Contains trees t × (t.source ≡ a) × KeepsFrom m ts ls t b
 
 -- where a bit of two sectors is set, no passable lines connect them, or the tree of one of them keeps from the other
 abbrev pub AreSetApart : PlanParts → List Triangle → List (Option ℕ) → Verdicts → Type 0
 AreSetApart p ts ls v = (a b : ℕ) → a < p.sectors → b < p.sectors → a ≢ b → Rejects v.table a b
-    → ¬ AreConnected (map_of p) a b ⊎ (HasTreeAway (map_of p) ts ls v.trees a b ⊎ HasTreeAway (map_of p) ts ls v.trees b a)
+    → ¬ AreConnected (map_of p) a b ⊎ (HasTreeKeepingFrom (map_of p) ts ls v.trees a b ⊎ HasTreeKeepingFrom (map_of p) ts ls v.trees b a)
 
 -- each sector whose budget isn't spent has its tree, but for those that see all that are connected with them
 abbrev pub AreTreesOfUnspent : PlanParts → List Triangle → List (Option ℕ) → Budget → Verdicts → Type 0
@@ -67,16 +67,16 @@ pub record AreResultsOf (j : Job) (rs : List SourceResult) : Type 0 where
   pub results : AreResults j.plan.now rs
   pub workers : ℕ
   pub walked : AreWalked (task_for j workers) rs
-  pub settled : IsSettled rs j.components.now
+  pub settled : AreResultsSettled rs j.components.now
 
 -- what the walks of all sectors decide
-pub record AreVerdicts (p : PlanParts) (budget : Budget) (v : Verdicts) : Type 0 where
+pub record AreWalkVerdicts (p : PlanParts) (budget : Budget) (v : Verdicts) : Type 0 where
   pub results : List SourceResult
   pub components : List ℕ
-  pub walks : AreWalks p budget results
+  pub walks : AreWalksWithin p budget results
   pub each_sector : length components ≡ p.sectors
   pub connected : AreComponents (map_of p) components
-  pub settled : IsSettled results components
+  pub settled : AreResultsSettled results components
   pub table : DecidesTable p results components v.table
   pub listed : DecidesList results components v.listed
   pub rays : DecidesRays p results v.rays
@@ -113,8 +113,8 @@ SeesConnected p b x = (y : ℕ) → y < p.sectors → x ≢ y → AreConnected (
 -- What is known of what the walks of all sectors within a budget come to, over the faces of a map.
 pub record IsBuiltOver (p : PlanParts) (f : Faces) (budget : Budget) (b : Built) : Type 0 where
   pub sectors : b.table.n ≡ p.sectors
-  pub sizes : b.cert.sizes ≡ sizes_of p
-  pub in_order : IsInOrder b.cert
+  pub sizes : b.cert.sizes ≡ sizes_of_plan p
+  pub in_order : IsOneInOrder b.cert
   pub no_pairs : b.cert.listed ≡ []
   pub kept : b.cert.triangles ≡ labelled_of f.mesh.triangles f.labels
   pub below : (q : Pair) → Contains b.listed q → (q.a < q.b) × (q.b < p.sectors)

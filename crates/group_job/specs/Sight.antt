@@ -11,7 +11,7 @@ use Rattle.reject_bits.specs.Parts.{TableParts, Rejects}
 use Rattle.cert_format.specs.Parts.{CertParts}
 use Rattle.pair_budget.specs.declared.results.Reached.{Reached}
 use Rattle.pair_budget.specs.declared.results.SourceResult.{SourceResult}
-use Rattle.pair_budget.specs.Decide.{turned}
+use Rattle.pair_budget.specs.Decide.{turned_ray}
 use Rattle.pair_budget.specs.Through.{AreThrough, IsRayThrough}
 use Rattle.pair_budget.specs.Walked.{IsReachedFrom}
 
@@ -27,7 +27,7 @@ module _ (p : PlanParts) (ts : List Triangle) (ls : List (Option ℕ)) where
 
   -- the smaller sector found the larger along the ray, or the larger the smaller along the ray turned round
   abbrev pub IsRayAlong : PairRay → Type 0
-  IsRayAlong r = ((x : Reached) × IsFoundAlong r.pair.a x × (x.to ≡ r.pair.b) × (x.ray ≡ r.ray)) ⊎ ((x : Reached) × IsFoundAlong r.pair.b x × (x.to ≡ r.pair.a) × (r.ray ≡ turned x.ray))
+  IsRayAlong r = ((x : Reached) × IsFoundAlong r.pair.a x × (x.to ≡ r.pair.b) × (x.ray ≡ r.ray)) ⊎ ((x : Reached) × IsFoundAlong r.pair.b x × (x.to ≡ r.pair.a) × (r.ray ≡ turned_ray x.ray))
 
   abbrev pub AreRaysAlong : List PairRay → Type 0
   AreRaysAlong rays = (r : PairRay) → Contains rays r → IsRayAlong r

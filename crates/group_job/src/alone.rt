@@ -7,10 +7,10 @@ ghost use Rattle.sight_names.specs.Groups.{AreGroups, HasClosedFaces};
 ghost use Rattle.sight_names.specs.Map.{map_of};
 ghost use Rattle.sight_names.specs.Plan.{PlanParts};
 ghost use Rattle.sight_names.specs.Sound.{LinesMeetAtEnds};
-ghost use Rattle.cert_format.specs.Sizes.{sizes_of};
+ghost use Rattle.cert_format.specs.Sizes.{sizes_of_plan};
 ghost use Rattle.cert_format.specs.CertGroups.Grammar.{IsAnyInOrder};
 ghost use Rattle.cert_checker.specs.AcceptedGroups.Accepted.{IsAcceptedAny};
-ghost use Rattle.group_job.specs.Built.{IsGroupFault, IsSymmetric, TellsSectors, DecidesByGroups, IsTwoOf, OfTwo, HasRaysOfFound, HasTreesOfUnspent};
+ghost use Rattle.group_job.specs.Built.{IsOpenFace, IsBuiltSymmetric, TellsSectors, DecidesByGroups, IsTwoOfSizes, OfTwo, HasRaysOfFound, HasTreesOfUnspent};
 ghost use Rattle.group_job.specs.Faces.{AreFacesOf};
 ghost use Rattle.group_job.specs.Grouped.{IsMapOfGroups};
 ghost use Rattle.group_job.specs.Walked.{AreWalkedGroups};
@@ -38,13 +38,13 @@ pub fn build_table_alone<G: Gate>(
 ) -> Result<GroupBuilt, GroupFault>
     requires audited { LinesMeetAtEnds (map_of plan.now) }
     ensures closed { IfOk result (λ _. HasClosedFaces (map_of plan.now)) }
-    ensures fault { IfErr result (IsGroupFault (map_of plan.now)) }
+    ensures fault { IfErr result (IsOpenFace (map_of plan.now)) }
     ensures sectors { IfOk result (λ b. b.table.n ≡ plan.now.sectors) }
-    ensures sizes { IfOk result (λ b. IsTwoOf (sizes_of plan.now) b.cert) }
+    ensures sizes { IfOk result (λ b. IsTwoOfSizes (sizes_of_plan plan.now) b.cert) }
     ensures in_order { IfOk result (λ b. IsAnyInOrder b.cert) }
     ensures groups { IfOk result (λ b. OfTwo (λ c. AreGroups (map_of plan.now) c.groups) b.cert) }
     ensures listed { IfOk result (λ b. OfTwo (λ c. c.listed ≡ b.listed) b.cert) }
-    ensures symmetric { IfOk result IsSymmetric }
+    ensures symmetric { IfOk result IsBuiltSymmetric }
     ensures sight { IfOk result (TellsSectors (map_of plan.now)) }
     ensures by_groups { IfOk result (DecidesByGroups (map_of plan.now) ask) }
     ensures rays { IfOk result (λ b. OfTwo (HasRaysOfFound (map_of plan.now) ask) b.cert) }

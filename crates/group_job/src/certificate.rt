@@ -3,10 +3,10 @@
 ghost use Rattle.std.specs.Prelude.{◌≡◌, ◌≤◌, ◌++◌, length, map, IfOk, OnOk};
 ghost use Rattle.sight_names.specs.Mesh.{AreTriangles};
 ghost use Rattle.cert_format.specs.declared.cert.Labelled.{Labelled as AtSector};
-ghost use Rattle.cert_format.specs.Grammar.{IsInOrder};
-ghost use Rattle.cert_format.specs.Sizes.{sizes_of};
+ghost use Rattle.cert_format.specs.Grammar.{IsOneInOrder};
+ghost use Rattle.cert_format.specs.Sizes.{sizes_of_plan};
 ghost use Rattle.sight_names.specs.Plan.{IsPlan};
-ghost use Rattle.group_job.specs.Labelled.{labelled_of, added};
+ghost use Rattle.group_job.specs.Labelled.{labelled_of, labelled_if_any};
 
 use block_evidence::sight_tree::Tree;
 use cert_format::{Cert, Labelled, Sizes};
@@ -16,7 +16,7 @@ use std::alloc::Global;
 
 /// Puts the triangle with its sector at the end, where it has one.
 fn put(found: &mut Vec<Labelled>, triangle: Triangle, label: Option<u16>) -> Result<(), Memory>
-    ensures { OnOk result (found.new.items ≡ found.old.items ++ added triangle label) }
+    ensures { OnOk result (found.new.items ≡ found.old.items ++ labelled_if_any triangle label) }
 {
     if let Some(sector) = label {
         found.push(Labelled { triangle, sector })?;
@@ -42,7 +42,7 @@ pub fn labelled(alloc: Global, mesh: &Mesh, labels: &Labels) -> Result<Vec<Label
 
 /// The sizes of the map of a plan.
 pub(crate) fn map_sizes(plan: &Plan) -> Sizes
-    ensures sizes { result ≡ sizes_of plan.now }
+    ensures sizes { result ≡ sizes_of_plan plan.now }
     ensures plan { IsPlan plan.now }
 {
     Sizes {
@@ -60,8 +60,8 @@ pub(crate) fn cert_of(
     listed: Vec<Pair>,
     trees: Vec<Tree>,
 ) -> Cert
-    requires { IsInOrder (record { sizes = sizes; triangles = triangles.items; rays = rays.items; listed = listed.items; trees = trees.items }) }
-    ensures in_order { IsInOrder result }
+    requires { IsOneInOrder (record { sizes = sizes; triangles = triangles.items; rays = rays.items; listed = listed.items; trees = trees.items }) }
+    ensures in_order { IsOneInOrder result }
     ensures parts { result ≡ record { sizes = sizes; triangles = triangles.items; rays = rays.items; listed = listed.items; trees = trees.items } }
 {
     Cert {

@@ -3,7 +3,7 @@
 ghost use Rattle.std.specs.Prelude.{IfErr, IfOk};
 ghost use Rattle.sight_names.specs.Map.{map_of};
 ghost use Rattle.sight_names.specs.Sound.{LinesMeetAtEnds};
-ghost use Rattle.group_job.specs.Built.{IsGroupFault};
+ghost use Rattle.group_job.specs.Built.{IsOpenFace};
 ghost use Rattle.group_job.specs.Grouped.{IsMapOfGroups};
 
 use crate::faces::Faces;
@@ -29,7 +29,7 @@ pub struct MapOfGroups {
 pub fn map_of_groups(alloc: Global, plan: &Plan) -> Result<MapOfGroups, GroupFault>
     requires audited { LinesMeetAtEnds (map_of plan.now) }
     ensures grouped { IfOk result (IsMapOfGroups plan.now) }
-    ensures fault { IfErr result (IsGroupFault (map_of plan.now)) }
+    ensures fault { IfErr result (IsOpenFace (map_of plan.now)) }
 {
     map_of_groups_by(&Alone, alloc, plan)
 }
@@ -47,7 +47,7 @@ pub fn map_of_groups_by<W: SegmentWorkers>(
     requires can { W.can_work workers.now }
     requires audited { LinesMeetAtEnds (map_of plan.now) }
     ensures grouped { IfOk result (IsMapOfGroups plan.now) }
-    ensures fault { IfErr result (IsGroupFault (map_of plan.now)) }
+    ensures fault { IfErr result (IsOpenFace (map_of plan.now)) }
 {
     let _ = plan.lines();
     let mesh = greedy_mesh_by(workers, alloc, plan)?;

@@ -1,7 +1,7 @@
 -- Lines put together from their ends to their beginnings.
 use Rattle.std.proofs.Common.{◌≡◌, ◌∙◌, ℕ, List, [], ◌++◌, ap, codes, decimal, sym, append_assoc}
 use Rattle.std.proofs.lemmas.List.{append-nil}
-use Rattle.listeners.specs.Texts.{pair_line, total_line}
+use Rattle.listeners.specs.Texts.{line_of_sectors, total_line}
 
 -- the next part of what is left
 more : (whole front left part rest : List ℕ) → whole ≡ front ++ left → left ≡ part ++ rest → whole ≡ (front ++ part) ++ rest
@@ -10,7 +10,7 @@ more whole front left part rest e next = e ∙ ap (λ (t : List ℕ). front ++ t
 done : (whole front left : List ℕ) → whole ≡ front ++ left → left ≡ [] → whole ≡ front
 done whole front left e none = e ∙ ap (λ (t : List ℕ). front ++ t) none ∙ append-nil front
 
-pub pair_line_made : (word : List ℕ) (a b x y : ℕ) (p0 p1 p2 p3 p4 p5 : List ℕ) → x ≡ a → y ≡ b → p5 ≡ word ++ p4 → p4 ≡ decimal x ++ p3 → p3 ≡ codes " " ++ p2 → p2 ≡ decimal y ++ p1 → p1 ≡ codes "\n" ++ p0 → p0 ≡ [] → p5 ≡ pair_line word a b
+pub pair_line_made : (word : List ℕ) (a b x y : ℕ) (p0 p1 p2 p3 p4 p5 : List ℕ) → x ≡ a → y ≡ b → p5 ≡ word ++ p4 → p4 ≡ decimal x ++ p3 → p3 ≡ codes " " ++ p2 → p2 ≡ decimal y ++ p1 → p1 ≡ codes "\n" ++ p0 → p0 ≡ [] → p5 ≡ line_of_sectors word a b
 pair_line_made word a b x y p0 p1 p2 p3 p4 p5 at_a at_b e5 e4 e3 e2 e1 e0 =
     let s4 : p5 ≡ (word ++ decimal x) ++ p3 = more p5 word p4 (decimal x) p3 e5 e4 in
     let s3 : p5 ≡ ((word ++ decimal x) ++ codes " ") ++ p2 = more p5 (word ++ decimal x) p3 (codes " ") p2 s4 e3 in

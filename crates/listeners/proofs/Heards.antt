@@ -9,7 +9,7 @@ use Rattle.math_base.proofs.Bools.{first_false, second_false}
 use Rattle.math_base.proofs.Numbers.{below_or_not, same_or_below, tells_below, tells_not_below, tells_other, tells_same}
 use Rattle.listeners.specs.declared.finding.Finding.{Finding}
 use Rattle.listeners.specs.Listening.{ListenerState, is_quota, is_set_kind, sets_in}
-use Rattle.listeners.specs.Told.{AreTold, AreToldInTurn, HeardFront, HeardFronts, HeardMore, IsTold, StopsAmong, TellsAll, TellsInPart, ends_among, ends_with, ends_within, texts}
+use Rattle.listeners.specs.Told.{AreFindingsTold, AreToldInTurn, HeardFront, HeardFronts, HeardMore, IsFindingTold, StopsAmong, TellsAllFindings, TellsInPart, ends_among, ends_with, ends_within, texts}
 use Rattle.listeners.proofs.InTurn.{one_more}
 
 heard_both : (fs gs : List Finding) (s t u : ListenerState) → HeardMore fs s t → HeardMore gs t u → HeardMore (fs ++ gs) s u
@@ -98,7 +98,7 @@ left_more f fs (s ∷ ss) (t ∷ ts) after each h =
 left_in_turn : (fs : List Finding) (before after ended : List ListenerState) → AreToldInTurn fs before after ended → AllZip (HeardMore fs) (filter (λ s. not (ends_among fs s)) before) after
 left_in_turn [] before after ended h = subst (λ (l : List ListenerState). AllZip (HeardMore []) (filter (λ s. not (ends_among [] s)) before) l) (sym h.0) (left_none before)
 left_in_turn (f ∷ fs) before after ended h =
-    let told : IsTold f before h.0 h.1 = h.3 in
+    let told : IsFindingTold f before h.0 h.1 = h.3 in
     left_more f fs before told.told after told.each
     (subst (λ (l : List ListenerState). AllZip (HeardMore fs) (filter (λ s. not (ends_among fs s)) l) after) told.left_is (left_in_turn fs h.0 after h.2 h.4))
 
@@ -129,13 +129,13 @@ none_first f fs (s ∷ ss) (t ∷ ts) each e =
 none_in_turn : (fs : List Finding) (before after ended : List ListenerState) → AreToldInTurn fs before after ended → filter (ends_among fs) before ≡ [] → ended ≡ []
 none_in_turn [] before after ended h e = h.1
 none_in_turn (f ∷ fs) before after ended h e =
-    let told : IsTold f before h.0 h.1 = h.3 in
+    let told : IsFindingTold f before h.0 h.1 = h.3 in
     let k = none_first f fs before told.told told.each e in
     let others : h.2 ≡ [] = none_in_turn fs h.0 after h.2 h.4 (ap (filter (ends_among fs)) told.left_is ∙ k.1) in
     h.5 ∙ ap (λ (l : List ListenerState). l ++ h.2) (told.ended_is ∙ k.0) ∙ others
 
 -- the findings were told in turn, and nobody had ended before: so these were told
-pub are_told : (fs : List Finding) (old new ended_old ended_new : List ListenerState) → ended_old ≡ [] → TellsAll fs old new ended_old ended_new → AreTold fs old new (texts ended_new ++ texts new)
+pub are_told : (fs : List Finding) (old new ended_old ended_new : List ListenerState) → ended_old ≡ [] → TellsAllFindings fs old new ended_old ended_new → AreFindingsTold fs old new (texts ended_new ++ texts new)
 are_told fs old new ended_old ended_new nobody h = record {
   left = left_in_turn fs old new h.ended h.told;
   first = texts ended_new;
@@ -191,14 +191,14 @@ fronts_more f fs (s ∷ ss) (t ∷ ts) after each h = fronts_case f fs s t ss (f
 fronts_in_turn : (fs gs : List Finding) (before between after ended : List ListenerState) → AreToldInTurn fs before between ended → HeardFronts gs between after → HeardFronts (fs ++ gs) before after
 fronts_in_turn [] gs before between after ended h k = subst (λ (l : List ListenerState). HeardFronts gs l after) h.0 k
 fronts_in_turn (f ∷ fs) gs before between after ended h k =
-    let told : IsTold f before h.0 h.1 = h.3 in
+    let told : IsFindingTold f before h.0 h.1 = h.3 in
     fronts_more f (fs ++ gs) before told.told after told.each
     (subst (λ (l : List ListenerState). HeardFronts (fs ++ gs) l after) told.left_is (fronts_in_turn fs gs h.0 between after h.2 h.4 k))
 
 fronts_at : (f : Finding) (rest : List Finding) (old new ended_old ended_new : List ListenerState) → TellsInPart f old new ended_old ended_new → HeardFronts (f ∷ rest) old new
 fronts_at f rest old new ended_old ended_new h =
     let part = h.told in
-    let told : IsTold f part.front part.stay h.ended = part.told in
+    let told : IsFindingTold f part.front part.stay h.ended = part.told in
     subst (λ (l : List ListenerState). HeardFronts (f ∷ rest) l new) (sym part.is)
     (subst (λ (l : List ListenerState). HeardFronts (f ∷ rest) (part.front ++ part.behind) l) (sym (part.left_is ∙ ap (λ (l : List ListenerState). l ++ part.behind) told.left_is))
     (fronts_in_part f rest part.front told.told part.behind told.each))

@@ -8,7 +8,7 @@ use Rattle.std.specs.List.{filter}
 use Rattle.listeners.specs.declared.finding.Finding.{Finding}
 use Rattle.listeners.specs.declared.finding.Keep.TheVariants as keep
 use Rattle.listeners.specs.Listening.{ListenerState, is_last_for, is_quota, is_set_kind, keep_of, sets_in}
-use Rattle.listeners.specs.Told.{HeardMore, IsTold, TellsInPart, ends_with}
+use Rattle.listeners.specs.Told.{HeardMore, IsFindingTold, TellsInPart, ends_with}
 
 -- ---- whether it is the last
 
@@ -41,7 +41,7 @@ ends f s t h e = ends_as_last f s t h ∙ done_by (is_last_for s f) e
 
 -- ---- one listener more
 
-pub told_none : (f : Finding) → IsTold f [] [] []
+pub told_none : (f : Finding) → IsFindingTold f [] [] []
 told_none f = record { told = []; each = tt; left_is = refl; ended_is = refl }
 
 passed : (p : ListenerState → Bool) (told : List ListenerState) (t : ListenerState) → p t ≡ true → filter p (told ++ t ∷ []) ≡ filter p told ++ t ∷ []
@@ -50,7 +50,7 @@ passed p told t e = filter-append p told (t ∷ []) ∙ ap (λ (b : Bool). filte
 stopped : (p : ListenerState → Bool) (told : List ListenerState) (t : ListenerState) → p t ≡ false → filter p (told ++ t ∷ []) ≡ filter p told
 stopped p told t e = filter-append p told (t ∷ []) ∙ ap (λ (b : Bool). filter p told ++ cond b (t ∷ []) []) e ∙ append-nil (filter p told)
 
-pub told_stay : (f : Finding) (front left ended : List ListenerState) (s t : ListenerState) → IsTold f front left ended → HeardMore (f ∷ []) s t → ends_with f t ≡ false → IsTold f (front ++ s ∷ []) (left ++ t ∷ []) ended
+pub told_stay : (f : Finding) (front left ended : List ListenerState) (s t : ListenerState) → IsFindingTold f front left ended → HeardMore (f ∷ []) s t → ends_with f t ≡ false → IsFindingTold f (front ++ s ∷ []) (left ++ t ∷ []) ended
 told_stay f front left ended s t h more e = record {
   told = h.told ++ t ∷ [];
   each = AllZip-push (HeardMore (f ∷ [])) front h.told s t h.each more;
@@ -58,7 +58,7 @@ told_stay f front left ended s t h more e = record {
   ended_is = h.ended_is ∙ sym (stopped (ends_with f) h.told t e);
 }
 
-pub told_done : (f : Finding) (front left ended : List ListenerState) (s t : ListenerState) → IsTold f front left ended → HeardMore (f ∷ []) s t → ends_with f t ≡ true → IsTold f (front ++ s ∷ []) left (ended ++ t ∷ [])
+pub told_done : (f : Finding) (front left ended : List ListenerState) (s t : ListenerState) → IsFindingTold f front left ended → HeardMore (f ∷ []) s t → ends_with f t ≡ true → IsFindingTold f (front ++ s ∷ []) left (ended ++ t ∷ [])
 told_done f front left ended s t h more e = record {
   told = h.told ++ t ∷ [];
   each = AllZip-push (HeardMore (f ∷ [])) front h.told s t h.each more;
@@ -90,7 +90,7 @@ pub record IsOnWay {X : Type 0} (state : X → ListenerState) (f : Finding) (old
   pub is : map state old ≡ front ++ map state (drop at new)
   pub within : at ≤ length new
   pub ended : List ListenerState
-  pub told : IsTold f front (map state (take at new)) ended
+  pub told : IsFindingTold f front (map state (take at new)) ended
   pub ended_is : map state ended_new ≡ map state ended_old ++ ended
 
 pub on_way : {X : Type 0} (state : X → ListenerState) (f : Finding) (list ended ended_new : List X) → ended_new ≡ ended → IsOnWay state f list list 0 ended ended_new
@@ -111,7 +111,7 @@ on_way_stay state f old new at x y ended_old ended_new h lt first more stay = re
   is = h.is ∙ ap (λ (l : List _). h.front ++ map state l) (first ∙ ap (λ l. x ∷ l) (sym (behind_set new at y))) ∙ sym (append_assoc h.front (state x ∷ []) (map state (drop (at + 1) (set new at y))));
   within = omega (arith, lt, length-set new at y);
   ended = h.ended;
-  told = subst (λ (l : List ListenerState). IsTold f (h.front ++ state x ∷ []) l h.ended) (sym (map-append state (take at new) (y ∷ [])) ∙ ap (map state) (sym (take_more_set new at y lt)))
+  told = subst (λ (l : List ListenerState). IsFindingTold f (h.front ++ state x ∷ []) l h.ended) (sym (map-append state (take at new) (y ∷ [])) ∙ ap (map state) (sym (take_more_set new at y lt)))
       (told_stay f h.front (map state (take at new)) h.ended (state x) (state y) h.told more (stays f (state x) (state y) more stay));
   ended_is = h.ended_is;
 }
@@ -124,7 +124,7 @@ on_way_done state f old new after at x y ended_old ended_new h lt first more don
   is = h.is ∙ ap (λ (l : List _). h.front ++ map state l) first ∙ sym (append_assoc h.front (state x ∷ []) (map state (drop (at + 1) new))) ∙ ap (λ (l : List _). (h.front ++ state x ∷ []) ++ map state l) (sym (behind_cut new at (omega (arith, lt))) ∙ ap (drop at) (sym is));
   within = omega (arith, ap length is, length_cut new at (omega (arith, lt)));
   ended = h.ended ++ state y ∷ [];
-  told = subst (λ (l : List ListenerState). IsTold f (h.front ++ state x ∷ []) l (h.ended ++ state y ∷ [])) (ap (map state) (sym (front_cut new at (omega (arith, lt))) ∙ ap (take at) (sym is)))
+  told = subst (λ (l : List ListenerState). IsFindingTold f (h.front ++ state x ∷ []) l (h.ended ++ state y ∷ [])) (ap (map state) (sym (front_cut new at (omega (arith, lt))) ∙ ap (take at) (sym is)))
       (told_done f h.front (map state (take at new)) h.ended (state x) (state y) h.told more (ends f (state x) (state y) more done));
   ended_is = map-append state ended_new (y ∷ []) ∙ ap (λ l. l ++ state y ∷ []) h.ended_is ∙ append_assoc (map state ended_old) h.ended (state y ∷ []);
 }

@@ -6,7 +6,7 @@ use Rattle.listeners.specs.declared.finding.Finding.{Finding}
 use Rattle.listeners.specs.Listening.{ListenerState, listener_text}
 use Rattle.listeners.specs.Reporters.{new_reporters}
 use Rattle.listeners.specs.Texts.{finding_lines, totals_line}
-use Rattle.listeners.specs.Told.{AreTold, HeardMore, texts}
+use Rattle.listeners.specs.Told.{AreFindingsTold, HeardMore, texts}
 
 -- its text is what it writes of all that it heard
 written_by : (fs heard : List Finding) (writes : List Finding → List ℕ) (s : ListenerState) → s.heard ≡ heard ++ fs → s.writes ≡ writes → listener_text s ≡ writes (heard ++ fs)
@@ -21,9 +21,9 @@ both fs (a ∷ b ∷ []) h =
 both fs (a ∷ b ∷ c ∷ rest) h = absurd h.1.1
 
 -- the texts of both that heard all findings
-pub texts_of_both : (fs : List Finding) (after : List ListenerState) (report : List ℕ) → AreTold fs new_reporters after report → texts after ≡ finding_lines fs ++ totals_line fs
+pub texts_of_both : (fs : List Finding) (after : List ListenerState) (report : List ℕ) → AreFindingsTold fs new_reporters after report → texts after ≡ finding_lines fs ++ totals_line fs
 texts_of_both fs after report told = both fs after told.left
 
 -- neither is ever done, so these texts are the report
-pub report_of_both : (fs : List Finding) (after : List ListenerState) (report : List ℕ) → AreTold fs new_reporters after report → report ≡ texts after
+pub report_of_both : (fs : List Finding) (after : List ListenerState) (report : List ℕ) → AreFindingsTold fs new_reporters after report → report ≡ texts after
 report_of_both fs after report told = told.report_is ∙ ap (λ (t : List ℕ). t ++ texts after) (told.none refl)

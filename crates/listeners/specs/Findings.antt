@@ -17,17 +17,17 @@ IsKindOf m budget a b kind.Clear = ¬ IsListedByGroups m budget a b × Sees m a 
 IsKindOf m budget a b kind.Set = ¬ IsListedByGroups m budget a b × ¬ Sees m a b
 
 -- the pairs (a, b) of so many sectors with a <= b, for one a
-abbrev pub pairs_from : ℕ → ℕ → List Pair
-pairs_from n a = map (λ b. record { a = a; b = b }) (range_with_len a (n - a))
+abbrev pub pairs_in_row_from : ℕ → ℕ → List Pair
+pairs_in_row_from n a = map (λ b. record { a = a; b = b }) (range_with_len a (n - a))
 
 -- .. and for all a, by a, then by b
-abbrev pub all_pairs : ℕ → List Pair
-all_pairs n = flat_map (pairs_from n) (range_with_len 0 n)
+abbrev pub all_pairs_of : ℕ → List Pair
+all_pairs_of n = flat_map (pairs_in_row_from n) (range_with_len 0 n)
 
-abbrev pub pair_of : Finding → Pair
-pair_of f = record { a = f.a; b = f.b }
+abbrev pub pair_of_finding : Finding → Pair
+pair_of_finding f = record { a = f.a; b = f.b }
 
 -- one finding for each pair in order, and each of its kind
-pub record AreFindings (m : Map) (budget : Budget) (findings : List Finding) : Type 0 where
-  pub pairs : map pair_of findings ≡ all_pairs m.sectors
+pub record AreFindingsOfMap (m : Map) (budget : Budget) (findings : List Finding) : Type 0 where
+  pub pairs : map pair_of_finding findings ≡ all_pairs_of m.sectors
   pub kinds : All (λ f. IsKindOf m budget f.a f.b f.kind) findings

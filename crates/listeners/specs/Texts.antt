@@ -7,18 +7,18 @@ use Rattle.listeners.specs.declared.finding.Kind.TheVariants as kind
 use Rattle.listeners.specs.Listening.{clears_in, lists_in, sets_in}
 
 -- two sectors behind a word, as in `set 0 2`, on a line
-abbrev pub pair_line : List ℕ → ℕ → ℕ → List ℕ
-pair_line word a b = word ++ decimal a ++ codes " " ++ decimal b ++ codes "\n"
+abbrev pub line_of_sectors : List ℕ → ℕ → ℕ → List ℕ
+line_of_sectors word a b = word ++ decimal a ++ codes " " ++ decimal b ++ codes "\n"
 
 -- the line of a set pair; none of another one
 abbrev pub set_line : ℕ → ℕ → Kind → List ℕ
-set_line a b kind.Set = pair_line (codes "set ") a b
+set_line a b kind.Set = line_of_sectors (codes "set ") a b
 set_line a b kind = []
 
 -- the line of a set or of a listed pair; none of a clear one
 abbrev pub finding_line : ℕ → ℕ → Kind → List ℕ
-finding_line a b kind.Set = pair_line (codes "set ") a b
-finding_line a b kind.Listed = pair_line (codes "listed ") a b
+finding_line a b kind.Set = line_of_sectors (codes "set ") a b
+finding_line a b kind.Listed = line_of_sectors (codes "listed ") a b
 finding_line a b kind.Clear = []
 
 -- the lines of all set pairs in order

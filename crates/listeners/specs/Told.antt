@@ -17,7 +17,7 @@ abbrev pub ends_with : Finding → ListenerState → Bool
 ends_with f s = is_set_kind f.kind && is_quota s.quota (sets_in s.heard)
 
 -- Each listener of a list hears a finding once. Those for which it is the last stand apart then, the others stay, all in their order.
-pub record IsTold (f : Finding) (before left ended : List ListenerState) : Type 0 where
+pub record IsFindingTold (f : Finding) (before left ended : List ListenerState) : Type 0 where
   pub told : List ListenerState
   pub each : AllZip (HeardMore (f ∷ [])) before told
   pub left_is : left ≡ filter (λ s. not (ends_with f s)) told
@@ -29,13 +29,13 @@ pub record IsToldInPart (f : Finding) (before left ended : List ListenerState) :
   pub behind : List ListenerState
   pub is : before ≡ front ++ behind
   pub stay : List ListenerState
-  pub told : IsTold f front stay ended
+  pub told : IsFindingTold f front stay ended
   pub left_is : left ≡ stay ++ behind
 
 -- .. and those for which it is the last stand behind those that ended before
 pub record TellsOk (f : Finding) (old new ended_old ended_new : List ListenerState) : Type 0 where
   pub ended : List ListenerState
-  pub told : IsTold f old new ended
+  pub told : IsFindingTold f old new ended
   pub ended_is : ended_new ≡ ended_old ++ ended
 
 pub record TellsInPart (f : Finding) (old new ended_old ended_new : List ListenerState) : Type 0 where
@@ -48,10 +48,10 @@ pub record TellsInPart (f : Finding) (old new ended_old ended_new : List Listene
 -- Each finding is told to the listeners that are left by then. Those for which it is the last stand apart, in the order in which they end.
 abbrev pub AreToldInTurn : List Finding → List ListenerState → List ListenerState → List ListenerState → Type 0
 AreToldInTurn [] before left ended = (left ≡ before) × (ended ≡ [])
-AreToldInTurn (f ∷ fs) before left ended = (between first others : List ListenerState) × IsTold f before between first × AreToldInTurn fs between left others × (ended ≡ first ++ others)
+AreToldInTurn (f ∷ fs) before left ended = (between first others : List ListenerState) × IsFindingTold f before between first × AreToldInTurn fs between left others × (ended ≡ first ++ others)
 
 -- .. behind those that ended before
-pub record TellsAll (fs : List Finding) (old new ended_old ended_new : List ListenerState) : Type 0 where
+pub record TellsAllFindings (fs : List Finding) (old new ended_old ended_new : List ListenerState) : Type 0 where
   pub ended : List ListenerState
   pub told : AreToldInTurn fs old new ended
   pub ended_is : ended_new ≡ ended_old ++ ended
@@ -64,7 +64,7 @@ pub record StopsAmong (fs : List Finding) (old new ended_old ended_new : List Li
   pub is : fs ≡ done ++ at ∷ rest
   pub between : List ListenerState
   pub ended_between : List ListenerState
-  pub told : TellsAll done old between ended_old ended_between
+  pub told : TellsAllFindings done old between ended_old ended_between
   pub in_part : TellsInPart at between new ended_between ended_new
 
 -- the texts of a list of listeners in order
@@ -84,7 +84,7 @@ ends_among fs s = ends_within fs s.quota (sets_in s.heard)
 
 -- Each listener whose last set pair is among the findings is gone; all others are left in their order, and heard just these more. The
 -- report is the texts of those that are gone, where there are any, and then of those that are left.
-pub record AreTold (fs : List Finding) (before after : List ListenerState) (report : List ℕ) : Type 0 where
+pub record AreFindingsTold (fs : List Finding) (before after : List ListenerState) (report : List ℕ) : Type 0 where
   pub left : AllZip (HeardMore fs) (filter (λ s. not (ends_among fs s)) before) after
   pub first : List ℕ
   pub none : filter (ends_among fs) before ≡ [] → first ≡ []

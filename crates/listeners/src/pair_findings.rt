@@ -4,9 +4,9 @@ ghost use Rattle.std.specs.Prelude.{◌≡◌, ◌+◌, ◌*◌, ◌<◌, ◌==�
 ghost use Rattle.std.specs.List.{AllByRecursion};
 ghost use Rattle.sight_names.specs.Order.{Ascends, PairBefore};
 ghost use Rattle.sight_names.specs.Table.{table_bit};
-ghost use Rattle.listeners.specs.Told.{AreTold, HeardFronts, StopsAmong, TellsAll, texts};
+ghost use Rattle.listeners.specs.Told.{AreFindingsTold, HeardFronts, StopsAmong, TellsAllFindings, texts};
 ghost use Rattle.listeners.specs.PairFindings.Counted.{FindingsAreCounted};
-ghost use Rattle.listeners.specs.PairFindings.Found.{FindingsTellPairs, IsPairOf, findings_of, is_listed, is_pair as is_the_pair, kind_by, row_from};
+ghost use Rattle.listeners.specs.PairFindings.Found.{FindingsTellPairs, IsPairBelow, findings_of, is_pair_listed, is_pair as is_the_pair, kind_by, row_from};
 ghost use Rattle.listeners.specs.PairFindings.Place.{IsLeftAt};
 
 use crate::{Finding, Kind, Listener, tell};
@@ -23,7 +23,7 @@ fn is_pair(pair: Pair, a: u16, b: u16) -> bool
 /// Whether the pair is listed. The place, which is that of the next pair of the list, goes on to the next pair.
 fn pass(listed: &[Pair], place: &mut usize, a: u16, b: u16) -> bool
     requires { IsLeftAt listed.now (drop place.old listed.now) a b }
-    ensures listed { result ≡ is_listed listed.now a b }
+    ensures listed { result ≡ is_pair_listed listed.now a b }
     ensures place { IsLeftAt listed.now (drop place.new listed.now) a (b + 1) }
 {
     let at = *place;
@@ -64,7 +64,7 @@ fn tell_row(
     requires from { a < table.now.n }
     requires place { IsLeftAt listed.now (drop place.old listed.now) a a }
     ensures place { OnOk result (IsLeftAt listed.now (drop place.new listed.now) a table.now.n) }
-    ensures told { OnOk result (TellsAll (row_from table.now listed.now a a) (map (λ b. listener_state b) list.old.items) (map (λ b. listener_state b) list.new.items) (map (λ b. listener_state b) ended.old.items) (map (λ b. listener_state b) ended.new.items)) }
+    ensures told { OnOk result (TellsAllFindings (row_from table.now listed.now a a) (map (λ b. listener_state b) list.old.items) (map (λ b. listener_state b) list.new.items) (map (λ b. listener_state b) ended.old.items) (map (λ b. listener_state b) ended.new.items)) }
     ensures stops { OnErr result (StopsAmong (row_from table.now listed.now a a) (map (λ b. listener_state b) list.old.items) (map (λ b. listener_state b) list.new.items) (map (λ b. listener_state b) ended.old.items) (map (λ b. listener_state b) ended.new.items)) }
 {
     for b in a..table.sectors() {
@@ -85,10 +85,10 @@ pub fn tell_all(
     ended: &mut Vec<Box<dyn Listener>>,
 ) -> Result<(), Memory>
     requires ascend { Ascends PairBefore listed.now }
-    requires pairs { AllByRecursion (IsPairOf table.now.n) listed.now }
+    requires pairs { AllByRecursion (IsPairBelow table.now.n) listed.now }
     requires nobody { ended.old.items ≡ [] }
-    ensures told { OnOk result (AreTold (findings_of table.now listed.now) (map (λ b. listener_state b) list.old.items) (map (λ b. listener_state b) list.new.items) (texts (map (λ b. listener_state b) ended.new.items) ++ texts (map (λ b. listener_state b) list.new.items))) }
-    ensures in_turn { OnOk result (TellsAll (findings_of table.now listed.now) (map (λ b. listener_state b) list.old.items) (map (λ b. listener_state b) list.new.items) (map (λ b. listener_state b) ended.old.items) (map (λ b. listener_state b) ended.new.items)) }
+    ensures told { OnOk result (AreFindingsTold (findings_of table.now listed.now) (map (λ b. listener_state b) list.old.items) (map (λ b. listener_state b) list.new.items) (texts (map (λ b. listener_state b) ended.new.items) ++ texts (map (λ b. listener_state b) list.new.items))) }
+    ensures in_turn { OnOk result (TellsAllFindings (findings_of table.now listed.now) (map (λ b. listener_state b) list.old.items) (map (λ b. listener_state b) list.new.items) (map (λ b. listener_state b) ended.old.items) (map (λ b. listener_state b) ended.new.items)) }
     ensures memory { OnErr result (HeardFronts (findings_of table.now listed.now) (map (λ b. listener_state b) list.old.items) (map (λ b. listener_state b) list.new.items)) }
     ensures stops { OnErr result (StopsAmong (findings_of table.now listed.now) (map (λ b. listener_state b) list.old.items) (map (λ b. listener_state b) list.new.items) (map (λ b. listener_state b) ended.old.items) (map (λ b. listener_state b) ended.new.items)) }
 {

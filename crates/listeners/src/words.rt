@@ -2,7 +2,7 @@
 
 ghost use Rattle.std.specs.Prelude.{◌≡◌, ◌+◌, ◌-◌, ◌≤◌, ◌++◌, ◌∷◌, [], length, drop, min, decimal, OnOk, OnErr};
 ghost use Rattle.listeners.specs.Listening.{AreWordsAt};
-ghost use Rattle.listeners.specs.Texts.{finding_line, pair_line as the_pair_line, set_line as the_set_line, total_line as the_total_line};
+ghost use Rattle.listeners.specs.Texts.{finding_line, line_of_sectors as the_pair_line, set_line as the_set_line, total_line as the_total_line};
 
 use crate::finding::{Finding, Kind};
 use itoa::write_digits;

@@ -9,7 +9,7 @@ use Rattle.map_answers.specs.declared.sight_status.status.Flaw.{Flaw}
 use Rattle.map_answers.specs.declared.sight_status.status.Flaw.TheVariants as flaw
 use Rattle.map_answers.specs.declared.sight_status.status.Status.{Status}
 use Rattle.map_answers.specs.declared.sight_status.status.Status.TheVariants as status
-use Rattle.map_answers.specs.SightStatus.Answer.{Answer, Gives}
+use Rattle.map_answers.specs.SightStatus.Answer.{Answer, GivesCalled}
 use Rattle.map_answers.specs.Sound.{HasLineFault, HasOpenSide, HasSoundLines, IsAuditRefusal, IsFlaw}
 use Rattle.math_base.proofs.Numbers.{below_above_or_same}
 
@@ -56,7 +56,7 @@ only_line m f h (Err (status.BadMap (flaw.Open t))) q = absurd (h.clash q.0)
 only_line m f h (Err s) q = absurd q
 
 -- the refusal of an audit is the one flaw
-pub gives_refused : (m : Map) (Sole : Type 0) (s : Status) → IsAuditRefusal m s → Gives Sole (IsFlaw m) (Err s)
+pub gives_refused : (m : Map) (Sole : Type 0) (s : Status) → IsAuditRefusal m s → GivesCalled Sole (IsFlaw m) (Err s)
 gives_refused m Sole (status.BadMap (flaw.Line f)) h = record { called = h.is; only = λ sole. only_line m f h }
 gives_refused m Sole (status.BadMap (flaw.Open side)) h = record { called = (h.0.meet, h.1); only = λ sole. only_open m side h.0 h.1 }
 gives_refused m Sole (status.Memory _) h = tt
@@ -64,7 +64,7 @@ gives_refused m Sole s h = absurd h
 
 -- the refusal of an audit is the one answer, where each other that is called for of a map that isn't sound is one too
 pub gives_unsound : (m : Map) (Called : Result Answer Status → Type 0) → ((which : Flaw) → IsFlaw m (Err (status.BadMap which)) → Called (Err (status.BadMap which))) → (¬ HasClosedFaces m → (other : Result Answer Status) → Called other → IsFlaw m other)
-    → (s : Status) → IsAuditRefusal m s → Gives (¬ HasClosedFaces m) Called (Err s)
+    → (s : Status) → IsAuditRefusal m s → GivesCalled (¬ HasClosedFaces m) Called (Err s)
 gives_unsound m Called called each (status.BadMap which) h = let g = gives_refused m (¬ HasClosedFaces m) (status.BadMap which) h in record { called = called which g.called; only = λ flawed other q. g.only flawed other (each flawed other q) }
 gives_unsound m Called called each (status.Memory _) h = tt
 gives_unsound m Called called each s h = absurd h

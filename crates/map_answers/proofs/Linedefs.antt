@@ -9,7 +9,7 @@ use Rattle.sight_names.specs.Map.{Map, looked_up, map_of}
 use Rattle.sight_names.specs.Plan.{PlanParts}
 use Rattle.sight_names.specs.declared.names.MapFormat.{MapFormat}
 use Rattle.sight_names.specs.declared.names.Reading.{Reading}
-use Rattle.sight_names.specs.Lumps.{count_linedefs, fault_if, linedef, linedef_len, lump_fault, map_of_lumps, numbers_below, numbers_from}
+use Rattle.sight_names.specs.Lumps.{count_linedefs, lump_fault_if, linedef, linedef_len, lump_fault, map_of_lumps, numbers_below, numbers_from}
 use Rattle.map_answers.specs.declared.sight_status.status.Status.{Status}
 use Rattle.map_answers.specs.Input.{of_four_lumps, of_lumps}
 
@@ -28,7 +28,7 @@ no_fault (Some (lump.BadVertex line)) m n e = absurd (clash _ n e)
 no_fault (Some (lump.BadSide line)) m n e = absurd (clash _ n e)
 no_fault (Some (lump.BadSector side)) m n e = absurd (clash _ n e)
 
-first_passes : (b : Bool) (f : LumpFault) (rest : Option LumpFault) → fault_if (not b) f rest ≡ None → b ≡ true
+first_passes : (b : Bool) (f : LumpFault) (rest : Option LumpFault) → lump_fault_if (not b) f rest ≡ None → b ≡ true
 first_passes true f rest e = refl
 first_passes false f rest e = absurd (no f e)
   where

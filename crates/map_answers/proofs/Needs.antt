@@ -13,8 +13,8 @@ use Rattle.sight_lift.proofs.SequenceLaws.All.{stand_in_order}
 use Rattle.portal_walk.specs.EnoughBudget.Need.{HasSequences, greatest}
 use Rattle.map_answers.specs.declared.sight_status.status.Status.{Status}
 use Rattle.map_answers.specs.declared.sight_status.status.Status.TheVariants as status
-use Rattle.map_answers.specs.SightStatus.Answer.{Answer, Gives, line_answer, only_line}
-use Rattle.map_answers.specs.Groups.{IsOverGroups, MapGroups}
+use Rattle.map_answers.specs.SightStatus.Answer.{Answer, GivesCalled, line_answer, only_line}
+use Rattle.map_answers.specs.Groups.{IsMapWithGroups, MapGroups}
 use Rattle.map_answers.specs.Need.{AreNeeds, NeedCalls, NeedsOf, need_line}
 use Rattle.map_answers.specs.Sound.{HasSoundLines}
 use Rattle.map_answers.proofs.Closed.{gives_called}
@@ -42,8 +42,8 @@ only_need : (name : List ℕ) (g : MapGroups) (ns line : List ℕ) → IsGoodMes
 only_need name g ns line good h is (Ok answer) q = ap Ok (q.is ∙ ap only_line (ap (line_for name g) (same_numbers g.grouped g.triangles g.labels good q.numbers ns q.are h) ∙ sym is))
 only_need name g ns line good h is (Err s) q = absurd q
 
-pub gives_need : (p : PlanParts) (name : List ℕ) (g : MapGroups) (ns : List ℕ) (r : Result (String Global) Status) → IsPlan p → HasSoundLines (map_of p) → IsOverGroups (map_of p) g → IsGoodMesh g.grouped g.triangles g.labels
-    → AreNeeds g.grouped g.triangles g.labels ns → IfOk r (λ line. string_bytes line ≡ need_line name (greatest ns) (enough_of g.grouped g.triangles)) → IfErr r (λ s. s ≡ status.Memory tt) → Gives ⊤ (NeedCalls name (map_of p)) (line_answer r)
+pub gives_need : (p : PlanParts) (name : List ℕ) (g : MapGroups) (ns : List ℕ) (r : Result (String Global) Status) → IsPlan p → HasSoundLines (map_of p) → IsMapWithGroups (map_of p) g → IsGoodMesh g.grouped g.triangles g.labels
+    → AreNeeds g.grouped g.triangles g.labels ns → IfOk r (λ line. string_bytes line ≡ need_line name (greatest ns) (enough_of g.grouped g.triangles)) → IfErr r (λ s. s ≡ status.Memory tt) → GivesCalled ⊤ (NeedCalls name (map_of p)) (line_answer r)
 gives_need p name g ns (Ok line) plan lines over good h is refusal =
     gives_called p plan (NeedsOf name) g (Ok (only_line (string_bytes line))) lines over (record { numbers = ns; are = h; is = ap only_line is }) (only_need name g ns (string_bytes line) good h is) tt
-gives_need p name g ns (Err s) plan lines over good h is refusal = subst (λ (t : Status). Gives ⊤ (NeedCalls name (map_of p)) (Err t)) (sym refusal) tt
+gives_need p name g ns (Err s) plan lines over good h is refusal = subst (λ (t : Status). GivesCalled ⊤ (NeedCalls name (map_of p)) (Err t)) (sym refusal) tt

@@ -4,7 +4,7 @@ use Rattle.std.specs.Prelude.{⊤, MatchOption, option_map}
 use Rattle.sight_names.specs.declared.names.Pair.{Pair}
 use Rattle.sight_names.specs.declared.names.Side.{Side}
 use Rattle.sight_names.specs.Map.{Map}
-use Rattle.sight_names.specs.Noise.{AreHeardCounts, Heard, IsFirstNoisePath}
+use Rattle.sight_names.specs.Noise.{AreHeardCounts, IsNoiseHeard, IsFirstNoisePath}
 use Rattle.sound_reach.proofs.OneNoise.{one_count, one_first}
 use Rattle.map_answers.specs.declared.sight_status.status.Why.TheVariants as why
 use Rattle.map_answers.specs.declared.sight_status.status.Status.{Status}
@@ -26,7 +26,7 @@ module _ (m : Map) (d : List Bool) (pair : Pair) where
       other (Err (status.No (why.NoSector k))) missing = absurd (not_missing k ha hb missing)
       other (Err s) q = absurd q
 
-  pub silence_is_the_answer : (line : List ℕ) → pair.a < m.sectors → pair.b < m.sectors → ¬ Heard m d pair.a pair.b → line ≡ no_noise_line pair → IsTheAnswer ⊤ (PairCalls m d pair) (Ok (only_line line))
+  pub silence_is_the_answer : (line : List ℕ) → pair.a < m.sectors → pair.b < m.sectors → ¬ IsNoiseHeard m d pair.a pair.b → line ≡ no_noise_line pair → IsTheAnswer ⊤ (PairCalls m d pair) (Ok (only_line line))
   silence_is_the_answer line ha hb silent said = record { called = (ha, hb, inr (record { silent = silent; is = ap only_line said })); only = λ sole. other }
     where
       other : (answer : Result Answer Status) → PairCalls m d pair answer → answer ≡ Ok (only_line line)
@@ -49,7 +49,7 @@ module _ (m : Map) (d : List Bool) (pair : Pair) where
       other (Err (status.No (why.NoSector i))) q = ap (λ (n : ℕ). Err (status.No (why.NoSector n))) (one i k q missing)
       other (Err s) q = absurd q
 
-  pub path_or_silence : {V : Type 0} (f : V → List Side) (o : Option V) (line : List ℕ) → pair.a < m.sectors → pair.b < m.sectors → MatchOption o (¬ Heard m d pair.a pair.b) (λ v. IsFirstNoisePath m d pair.a pair.b (f v)) → line ≡ path_line pair (option_map f o) → IsTheAnswer ⊤ (PairCalls m d pair) (Ok (only_line line))
+  pub path_or_silence : {V : Type 0} (f : V → List Side) (o : Option V) (line : List ℕ) → pair.a < m.sectors → pair.b < m.sectors → MatchOption o (¬ IsNoiseHeard m d pair.a pair.b) (λ v. IsFirstNoisePath m d pair.a pair.b (f v)) → line ≡ path_line pair (option_map f o) → IsTheAnswer ⊤ (PairCalls m d pair) (Ok (only_line line))
   path_or_silence f (Some v) line ha hb first said = path_is_the_answer (f v) line ha hb first said
   path_or_silence f None line ha hb silent said = silence_is_the_answer line ha hb silent said
 

@@ -9,9 +9,9 @@ use Rattle.sight_names.proofs.OneMesh.{one_labels, one_mesh}
 use Rattle.face_groups.proofs.GroupsBase.OneGrouped.{one_grouped}
 use Rattle.face_groups.proofs.GroupsBase.Ordered.{same_groups}
 use Rattle.triangulate.proofs.GroupLaws.WholeLaws.{each_has_list, groups_are_sound, groups_have_mesh}
-use Rattle.map_answers.specs.Groups.{IsOverGroups, MapGroups}
+use Rattle.map_answers.specs.Groups.{IsMapWithGroups, MapGroups}
 
-module _ (p : PlanParts) (plan : IsPlan p) (f g : MapGroups) (of_f : IsOverGroups (map_of p) f) (of_g : IsOverGroups (map_of p) g) where
+module _ (p : PlanParts) (plan : IsPlan p) (f g : MapGroups) (of_f : IsMapWithGroups (map_of p) f) (of_g : IsMapWithGroups (map_of p) g) where
   groups : g.groups ≡ f.groups
   groups = same_groups (map_of p) g.groups f.groups of_g.are of_f.are
 

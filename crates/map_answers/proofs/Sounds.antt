@@ -8,7 +8,7 @@ use Rattle.map_audit.specs.Audit.{IsLineFault}
 use Rattle.map_answers.specs.declared.sight_status.status.Flaw.TheVariants as flaw
 use Rattle.map_answers.specs.declared.sight_status.status.Status.{Status}
 use Rattle.map_answers.specs.declared.sight_status.status.Status.TheVariants as status
-use Rattle.map_answers.specs.SightStatus.Answer.{Answer, Gives}
+use Rattle.map_answers.specs.SightStatus.Answer.{Answer, GivesCalled}
 use Rattle.map_answers.specs.Sound.{HasLineFault, HasSoundLines, OnSoundLines}
 
 -- ---- the exact audit of lines
@@ -50,7 +50,7 @@ only_line_fault m Called f h (Ok answer) q = absurd (h.clash q.0)
 only_line_fault m Called f h (Err (status.BadMap (flaw.Line g))) q = ap (λ x. Err (status.BadMap (flaw.Line x))) (h.only g q)
 only_line_fault m Called f h (Err s) q = absurd (h.clash q.0)
 
-pub gives_line_fault : (m : Map) (Sole : Type 0) (Called : Result Answer Status → Type 0) (f : LineFault) → HasLineFault m f → Gives Sole (OnSoundLines m Called) (Err (status.BadMap (flaw.Line f)))
+pub gives_line_fault : (m : Map) (Sole : Type 0) (Called : Result Answer Status → Type 0) (f : LineFault) → HasLineFault m f → GivesCalled Sole (OnSoundLines m Called) (Err (status.BadMap (flaw.Line f)))
 gives_line_fault m Sole Called f h = record { called = h.is; only = λ sole. only_line_fault m Called f h }
 
 -- the answer on a sound map is no refusal of its audit

@@ -11,16 +11,16 @@ use Rattle.sight_ray.proofs.RayTrace.OneTrace.{IsTraced, one_answer}
 use Rattle.map_answers.specs.declared.sight_status.status.Why.TheVariants as why
 use Rattle.map_answers.specs.declared.sight_status.status.Status.{Status}
 use Rattle.map_answers.specs.declared.sight_status.status.Status.TheVariants as status
-use Rattle.map_answers.specs.SightStatus.Answer.{Answer, Gives, only_line}
-use Rattle.map_answers.specs.Groups.{IsOverGroups, MapGroups}
+use Rattle.map_answers.specs.SightStatus.Answer.{Answer, GivesCalled, only_line}
+use Rattle.map_answers.specs.Groups.{IsMapWithGroups, MapGroups}
 use Rattle.map_answers.specs.Sound.{HasSoundLines}
-use Rattle.map_answers.specs.Trace.{IsTraceRefusal, RayCallsFor, TraceCalls, places_of, trace_line}
+use Rattle.map_answers.specs.Trace.{IsTraceRefusal, RayCallsFor, TraceCalls, places_of_groups, trace_line}
 use Rattle.map_answers.proofs.Closed.{gives_called}
 use Rattle.map_answers.proofs.Sounds.{IsPastAudit}
 
 -- what is said of the answer of a trace
 abbrev said : MapGroups → Result (List ℕ) TraceFault → Result Answer Status
-said g (Ok passed) = Ok (only_line (trace_line g.groups (places_of g.labels passed)))
+said g (Ok passed) = Ok (only_line (trace_line g.groups (places_of_groups g.labels passed)))
 said g (Err fault) = Err (status.No (why.Trace fault))
 
 record Traced (ray : Ray) (g : MapGroups) (r : Result Answer Status) : Type 0 where
@@ -52,15 +52,15 @@ called_refusal ray g (status.No (why.Trace (trace.HitsPoint n))) h = inr (h, tt)
 called_refusal ray g s h = absurd h
 
 -- what the walk along the ray ends with is the one answer
-pub gives_stopped : (p : PlanParts) (ray : Ray) (g : MapGroups) (s : Status) → IsPlan p → HasSoundLines (map_of p) → IsOverGroups (map_of p) g → IsTraceRefusal g.grouped g.triangles ray s → Gives ⊤ (TraceCalls ray (map_of p)) (Err s)
-gives_stopped p ray g s plan lines over h = elim (called_refusal ray g s h) as (λ _. Gives ⊤ (TraceCalls ray (map_of p)) (Err s)) [
-  | inl none ↦ subst (λ (x : Status). Gives ⊤ (TraceCalls ray (map_of p)) (Err x)) (sym none) tt
+pub gives_stopped : (p : PlanParts) (ray : Ray) (g : MapGroups) (s : Status) → IsPlan p → HasSoundLines (map_of p) → IsMapWithGroups (map_of p) g → IsTraceRefusal g.grouped g.triangles ray s → GivesCalled ⊤ (TraceCalls ray (map_of p)) (Err s)
+gives_stopped p ray g s plan lines over h = elim (called_refusal ray g s h) as (λ _. GivesCalled ⊤ (TraceCalls ray (map_of p)) (Err s)) [
+  | inl none ↦ subst (λ (x : Status). GivesCalled ⊤ (TraceCalls ray (map_of p)) (Err x)) (sym none) tt
   | inr called ↦ gives_called p plan (RayCallsFor ray) g (Err s) lines over called.0 (one_called ray g (Err s) called.0) called.1
 ]
 
 -- and so is the line of a trace
-pub gives_line : (p : PlanParts) (ray : Ray) (g : MapGroups) (passed places line : List ℕ) → IsPlan p → HasSoundLines (map_of p) → IsOverGroups (map_of p) g → IsTrace g.grouped g.triangles ray passed → places ≡ places_of g.labels passed
-    → line ≡ trace_line g.groups places → Gives ⊤ (TraceCalls ray (map_of p)) (Ok (only_line line))
+pub gives_line : (p : PlanParts) (ray : Ray) (g : MapGroups) (passed places line : List ℕ) → IsPlan p → HasSoundLines (map_of p) → IsMapWithGroups (map_of p) g → IsTrace g.grouped g.triangles ray passed → places ≡ places_of_groups g.labels passed
+    → line ≡ trace_line g.groups places → GivesCalled ⊤ (TraceCalls ray (map_of p)) (Ok (only_line line))
 gives_line p ray g passed places line plan lines over walked named written =
     let called : RayCallsFor ray g (Ok (only_line line)) = record { passed = passed; trace = walked; is = ap only_line (written ∙ ap (trace_line g.groups) named) } in
     gives_called p plan (RayCallsFor ray) g (Ok (only_line line)) lines over called (one_called ray g (Ok (only_line line)) called) tt

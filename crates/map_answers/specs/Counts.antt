@@ -7,12 +7,12 @@ use Rattle.reject_bits.specs.Parts.{TableParts}
 use Rattle.map_answers.specs.declared.counts.Counts.{Counts}
 
 -- the bit of the pair (a, b) is set
-abbrev pub is_set : TableParts → ℕ → ℕ → Bool
-is_set t a b = table_bit t.bytes (a * t.n + b) == 1
+abbrev pub is_pair_set : TableParts → ℕ → ℕ → Bool
+is_pair_set t a b = table_bit t.bytes (a * t.n + b) == 1
 
 -- how many pairs (a, b) with a <= b have their bit set, for one a
 unfoldable pub set_from : TableParts → ℕ → ℕ
-set_from t a = count_by (is_set t a) (range_with_len a (t.n - a))
+set_from t a = count_by (is_pair_set t a) (range_with_len a (t.n - a))
 
 -- .. and for all a
 unfoldable pub set_pairs : TableParts → ℕ

@@ -21,22 +21,22 @@ pub record MapGroups : Type 0 where
   pub labels : List (Option ℕ)
 
 -- the map has closed faces, and these are its groups, its map of groups, and its mesh with the labels of that map
-pub record IsOverGroups (m : Map) (g : MapGroups) : Type 0 where
+pub record IsMapWithGroups (m : Map) (g : MapGroups) : Type 0 where
   pub faces : HasClosedFaces m
   pub are : AreGroups m g.groups
   pub is : IsGroupedMap m g.groups g.grouped
   pub mesh : IsMeshOf m g.triangles
   pub labelled : AreLabelsOf g.grouped g.triangles g.labels
 
-pub record HasGroups (m : Map) (Called : MapGroups → Result Answer Status → Type 0) (answer : Result Answer Status) : Type 0 where
+pub record HasGroupsCalled (m : Map) (Called : MapGroups → Result Answer Status → Type 0) (answer : Result Answer Status) : Type 0 where
   pub groups : MapGroups
-  pub over : IsOverGroups m groups
+  pub over : IsMapWithGroups m groups
   pub called : Called groups answer
 
 -- The least side that isn't closed refuses the map. In every other map the answer is the one that its groups call for.
 abbrev pub OnClosed : Map → (MapGroups → Result Answer Status → Type 0) → Result Answer Status → Type 0
 OnClosed m Called (Err (status.BadMap (flaw.Open side))) = HasOpenSide m side
-OnClosed m Called answer = HasGroups m Called answer
+OnClosed m Called answer = HasGroupsCalled m Called answer
 
 -- the whole audit: lines, then faces
 abbrev pub OnAudited : Map → (MapGroups → Result Answer Status → Type 0) → Result Answer Status → Type 0
@@ -55,9 +55,9 @@ abbrev pub seen : MeshGroups → MapGroups
 seen g = record { groups = g.grouped.groups; grouped = map_of g.grouped.plan; triangles = g.mesh.triangles; labels = g.grouped.labels }
 
 -- the groups of the plan's map over its mesh; the map of groups is sound, and the mesh is a good one of it
-pub record AreGroupsOver (p : PlanParts) (g : MeshGroups) : Type 0 where
+pub record AreGroupsOverPlan (p : PlanParts) (g : MeshGroups) : Type 0 where
   pub plan : IsPlan p
-  pub over : IsOverGroups (map_of p) (seen g)
+  pub over : IsMapWithGroups (map_of p) (seen g)
   pub sound : IsSound (map_of g.grouped.plan)
   pub mesh : IsMeshOf (map_of g.grouped.plan) g.mesh.triangles
   pub good : IsGoodMesh (map_of g.grouped.plan) g.mesh.triangles g.grouped.labels

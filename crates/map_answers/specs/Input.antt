@@ -12,7 +12,7 @@ use Rattle.udmf_map.specs.declared.faults.TextFault.TheVariants as text
 use Rattle.udmf_map.specs.Lumps.{LumpBytes, lumps_of_text}
 use Rattle.sight_names.specs.Lumps.{map_of_lumps, lump_fault}
 use Rattle.wad_dir.specs.declared.parts.MapSpot.{MapSpot}
-use Rattle.wad_dir.specs.Wad.{WadFile, names_of, wad_of}
+use Rattle.wad_dir.specs.Wad.{WadFile, names_of_lumps, wad_of}
 use Rattle.wad_dir.specs.Map.{spot_of}
 use Rattle.map_answers.specs.declared.sight_status.status.Bound.TheVariants as bound
 use Rattle.map_answers.specs.declared.sight_status.status.Status.{Status}
@@ -68,9 +68,9 @@ of_text_lump reading bytes = do
   of_four_lumps reading lumps.linedefs lumps.sidedefs lumps.vertexes lumps.sectors
 
 -- the map that a text spells, which stands for all four, or that four lumps spell
-abbrev pub spelled : Bool → Reading → List ℕ → List ℕ → List ℕ → List ℕ → Result Map Status
-spelled true reading linedefs sidedefs vertexes sectors = of_text_lump reading linedefs
-spelled false reading linedefs sidedefs vertexes sectors = of_four_lumps reading linedefs sidedefs vertexes sectors
+abbrev pub spelled_map : Bool → Reading → List ℕ → List ℕ → List ℕ → List ℕ → Result Map Status
+spelled_map true reading linedefs sidedefs vertexes sectors = of_text_lump reading linedefs
+spelled_map false reading linedefs sidedefs vertexes sectors = of_four_lumps reading linedefs sidedefs vertexes sectors
 
 -- how the map at this spot is read by these limits: in the format that the spot tells
 abbrev pub reading_at : Bool → MapSpot → Reading
@@ -79,19 +79,19 @@ reading_at large spot = record { format = spot.format; large = large }
 -- the map at this spot, by the larger limits or by the usual ones
 abbrev pub map_at : Bool → WadFile → MapSpot → Result Map Status
 map_at large file spot =
-    spelled spot.text (reading_at large spot) (lump_at file spot.linedefs) (lump_at file spot.sidedefs) (lump_at file spot.vertexes) (lump_at file spot.sectors)
+    spelled_map spot.text (reading_at large spot) (lump_at file spot.linedefs) (lump_at file spot.sidedefs) (lump_at file spot.vertexes) (lump_at file spot.sectors)
 
 -- the map of this name in a WAD, or the first check that fails
 unfoldable pub map_named : Bool → WadFile → List ℕ → Result Map Status
 map_named large file name = do
-  spot ← of_spot (spot_of (names_of file) name)
+  spot ← of_spot (spot_of (names_of_lumps file) name)
   map_at large file spot
 
 -- the map of this name in the bytes of a file, or the first check that fails
 unfoldable pub found_in : Bool → List ℕ → List ℕ → Result LocatedMap Status
 found_in large name bytes = do
   file ← of_wad (wad_of bytes)
-  spot ← of_spot (spot_of (names_of file) name)
+  spot ← of_spot (spot_of (names_of_lumps file) name)
   map ← map_at large file spot
   Ok (record { wad = file; spot = spot; map = map })
 

@@ -5,7 +5,7 @@ use Rattle.std.specs.List.{flat_map}
 use Rattle.sight_names.specs.declared.names.Pair.{Pair}
 use Rattle.sight_names.specs.declared.names.Side.{Side}
 use Rattle.sight_names.specs.Map.{Map}
-use Rattle.sight_names.specs.Noise.{AreHeardCounts, Heard, IsFirstNoisePath}
+use Rattle.sight_names.specs.Noise.{AreHeardCounts, IsNoiseHeard, IsFirstNoisePath}
 use Rattle.sight_names.specs.Texts.{side_text}
 use Rattle.sound_reach.specs.Dampers.{dampers_of}
 use Rattle.udmf_map.specs.declared.faults.TextFault.{TextFault}
@@ -78,7 +78,7 @@ pub record ShowsPath (m : Map) (dampers : List Bool) (pair : Pair) (answer : Ans
 
 -- there is no noise path
 pub record ShowsSilence (m : Map) (dampers : List Bool) (pair : Pair) (answer : Answer) : Type 0 where
-  pub silent : ¬ Heard m dampers pair.a pair.b
+  pub silent : ¬ IsNoiseHeard m dampers pair.a pair.b
   pub is : answer ≡ only_line (no_noise_line pair)
 
 -- the first number of the pair that is of no sector

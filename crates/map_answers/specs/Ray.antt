@@ -14,7 +14,7 @@ abbrev pub sight_line : ℕ → ℕ → List ℕ
 sight_line a b = codes "sight " ++ two a b ++ codes "\n"
 
 -- the ray is a sight ray from one sector to another, and the line names the two
-pub record ShowsSight (m : Map) (ray : Ray) (answer : Answer) : Type 0 where
+pub record ShowsSightOfRay (m : Map) (ray : Ray) (answer : Answer) : Type 0 where
   pub from : ℕ
   pub to : ℕ
   pub sight : IsSightRay m ray from to
@@ -22,6 +22,6 @@ pub record ShowsSight (m : Map) (ray : Ray) (answer : Answer) : Type 0 where
 
 -- the answer that `ray` calls for: the sight, or the first condition that fails
 abbrev pub RayCalls : Ray → Map → Result Answer Status → Type 0
-RayCalls ray m (Ok answer) = ShowsSight m ray answer
+RayCalls ray m (Ok answer) = ShowsSightOfRay m ray answer
 RayCalls ray m (Err (status.No (why.Ray fault))) = IsRayFault m ray fault
 RayCalls ray m (Err other) = ⊥

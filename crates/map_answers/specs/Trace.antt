@@ -32,22 +32,22 @@ group_text [] = []
 group_text (a ∷ rest) = decimal a ++ flat_map plus_word rest
 
 -- the group at this place
-abbrev pub word_of : List (List ℕ) → ℕ → List ℕ
-word_of groups k = codes " " ++ group_text (slice_index_or groups k [])
+abbrev pub group_word_at : List (List ℕ) → ℕ → List ℕ
+group_word_at groups k = codes " " ++ group_text (slice_index_or groups k [])
 
 -- the groups at these places one after the other, equal neighbours once
 abbrev pub trace_line : List (List ℕ) → List ℕ → List ℕ
-trace_line groups places = codes "trace" ++ flat_map (word_of groups) (changes None places) ++ codes "\n"
+trace_line groups places = codes "trace" ++ flat_map (group_word_at groups) (changes None places) ++ codes "\n"
 
 -- the places of the groups of these triangles
-abbrev pub places_of : List (Option ℕ) → List ℕ → List ℕ
-places_of labels passed = filter_map (label_of labels) passed
+abbrev pub places_of_groups : List (Option ℕ) → List ℕ → List ℕ
+places_of_groups labels passed = filter_map (label_of labels) passed
 
 -- on the map of groups the ray passes these triangles, and the line names their groups
 pub record ShowsTrace (ray : Ray) (g : MapGroups) (answer : Answer) : Type 0 where
   pub passed : List ℕ
   pub trace : IsTrace g.grouped g.triangles ray passed
-  pub is : answer ≡ only_line (trace_line g.groups (places_of g.labels passed))
+  pub is : answer ≡ only_line (trace_line g.groups (places_of_groups g.labels passed))
 
 -- the answers that the groups of a map call for: the trace, or what the ray comes to first
 abbrev pub RayCallsFor : Ray → MapGroups → Result Answer Status → Type 0

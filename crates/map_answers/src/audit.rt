@@ -4,7 +4,7 @@ ghost use Rattle.std.specs.Prelude.{◌≡◌, ◌++◌, IfErr, IfOk, Ok, codes,
 ghost use Rattle.std.specs.Fmt.{decimal};
 ghost use Rattle.sight_names.specs.Map.{map_of};
 ghost use Rattle.sight_names.specs.Points.{lines_of, points_of};
-ghost use Rattle.map_answers.specs.SightStatus.Answer.{Gives, line_answer};
+ghost use Rattle.map_answers.specs.SightStatus.Answer.{GivesCalled, line_answer};
 ghost use Rattle.map_answers.specs.Audit.{AuditCalls, sound_line};
 ghost use Rattle.map_answers.specs.SightStatus.Status.{IsOfMapTest};
 
@@ -89,7 +89,7 @@ fn sound_line_of(alloc: Global, plan: &Plan, labels: &Labels) -> Result<String, 
 
 /// The line that says what a sound map has, or the flaw of one that isn't.
 pub fn judge_audit(alloc: Global, plan: &Plan) -> Result<String, Status>
-    ensures judged { Gives ⊤ (AuditCalls (map_of plan.now)) (line_answer result) }
+    ensures judged { GivesCalled ⊤ (AuditCalls (map_of plan.now)) (line_answer result) }
     ensures refusals { IfErr result IsOfMapTest }
 {
     let groups = audit_map(alloc, plan)?;

@@ -5,7 +5,7 @@ ghost use Rattle.sight_names.specs.Map.{map_of};
 ghost use Rattle.sight_names.specs.Mesh.{IsMeshOf, IsPlainMesh};
 ghost use Rattle.sight_names.specs.Sound.{LinesMeetAtEnds};
 ghost use Rattle.mesh_shape.specs.Fills.{FillsSides};
-ghost use Rattle.map_answers.specs.Groups.{AreGroupsOver, IsClosedRefusal};
+ghost use Rattle.map_answers.specs.Groups.{AreGroupsOverPlan, IsClosedRefusal};
 ghost use Rattle.map_answers.specs.Sound.{HasSoundLines, IsAuditRefusal};
 
 use crate::sight_status::{Flaw, Status};
@@ -30,7 +30,7 @@ fn groups_over(alloc: Global, plan: &Plan, mesh: Mesh) -> Result<MeshGroups, Sta
     requires mesh { IsMeshOf (map_of plan.now) mesh.triangles }
     requires plain { IsPlainMesh (map_of plan.now) mesh.triangles }
     requires fills { FillsSides (map_of plan.now) mesh.triangles }
-    ensures groups { IfOk result (AreGroupsOver plan.now) }
+    ensures groups { IfOk result (AreGroupsOverPlan plan.now) }
     ensures refusals { IfErr result (IsClosedRefusal (map_of plan.now)) }
 {
     let _lines = plan.lines();
@@ -44,7 +44,7 @@ fn groups_over(alloc: Global, plan: &Plan, mesh: Mesh) -> Result<MeshGroups, Sta
 /// The groups of a map whose lines meet at ends, exactly where each of its faces is closed.
 pub fn audit_groups(alloc: Global, plan: &Plan) -> Result<MeshGroups, Status>
     requires { LinesMeetAtEnds (map_of plan.now) }
-    ensures groups { IfOk result (AreGroupsOver plan.now) }
+    ensures groups { IfOk result (AreGroupsOverPlan plan.now) }
     ensures refusals { IfErr result (IsClosedRefusal (map_of plan.now)) }
 {
     match greedy_mesh(alloc, plan) {
@@ -56,7 +56,7 @@ pub fn audit_groups(alloc: Global, plan: &Plan) -> Result<MeshGroups, Status>
 /// The whole audit of a map, and its groups.
 pub fn audit_map(alloc: Global, plan: &Plan) -> Result<MeshGroups, Status>
     ensures lines { IfOk result (λ _. HasSoundLines (map_of plan.now)) }
-    ensures groups { IfOk result (AreGroupsOver plan.now) }
+    ensures groups { IfOk result (AreGroupsOverPlan plan.now) }
     ensures refusals { IfErr result (IsAuditRefusal (map_of plan.now)) }
 {
     audit_lines_of(alloc, plan)?;

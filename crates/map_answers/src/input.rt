@@ -4,14 +4,14 @@ ghost use Rattle.std.specs.Prelude.{◌≡◌, ◌+◌, ◌≤◌, ◌<◌, leng
 ghost use Rattle.std.specs.Option.{ForSome};
 ghost use Rattle.sight_names.specs.Map.{map_of};
 ghost use Rattle.wad_dir.specs.Map.{entry_names, spot_of};
-ghost use Rattle.wad_dir.specs.Wad.{file_of, names_of, wad_of};
-ghost use Rattle.map_answers.specs.SightStatus.Answer.{Makes};
+ghost use Rattle.wad_dir.specs.Wad.{file_of, names_of_lumps, wad_of};
+ghost use Rattle.map_answers.specs.SightStatus.Answer.{MakesAnswer};
 ghost use Rattle.map_answers.specs.Input.{of_wad, of_spot, of_text, of_text_lump, of_four_lumps, lump_at, map_at, map_named, found_in};
 ghost use Rattle.map_answers.specs.SightStatus.Status.{IsOfBytes};
 ghost use Rattle.map_answers.specs.Noise.{HasDampers, linedefs_by, linedefs_in};
 ghost use Rattle.sound_reach.specs.Dampers.{dampers_of};
 ghost use Rattle.udmf_map.specs.Lumps.{lump_bytes, lumps_of_text as lumps_of_text_lem};
-ghost use Rattle.map_answers.specs.Views.{found, IsWhole};
+ghost use Rattle.map_answers.specs.Views.{located_map, IsInputWhole};
 
 use crate::sight_status::{Bound, Status};
 use map_lumps::read_lumps;
@@ -35,9 +35,9 @@ pub struct Input {
 /// The directory of the bytes of a file, or why they are no WAD.
 pub fn directory(alloc: Global, bytes: &[u8]) -> Result<Wad, Status>
     ensures inside { IfOk result (λ wad. All (λ entry. entry.at + entry.size ≤ length bytes.now) wad.entries) }
-    ensures names { IfOk result (λ wad. names_of (file_of bytes.now wad) ≡ entry_names wad.entries) }
+    ensures names { IfOk result (λ wad. names_of_lumps (file_of bytes.now wad) ≡ entry_names wad.entries) }
     ensures refusals { IfErr result IsOfBytes }
-    ensures read { Makes (file_of bytes.now) result (of_wad (wad_of bytes.now)) }
+    ensures read { MakesAnswer (file_of bytes.now) result (of_wad (wad_of bytes.now)) }
 {
     match read_wad(alloc, bytes) {
         Ok(wad) => Ok(wad),
@@ -72,7 +72,7 @@ pub fn plan_of(
     sectors: &[u8],
 ) -> Result<Plan, Status>
     ensures refusals { IfErr result IsOfBytes }
-    ensures map { Makes map_of result (of_four_lumps reading linedefs.now sidedefs.now vertexes.now sectors.now) }
+    ensures map { MakesAnswer map_of result (of_four_lumps reading linedefs.now sidedefs.now vertexes.now sectors.now) }
 {
     match read_lumps(alloc, reading, linedefs, sidedefs, vertexes, sectors) {
         Ok(plan) => Ok(plan),
@@ -103,7 +103,7 @@ fn read_four(
     sectors: &[u8],
 ) -> Result<(Plan, Items<bool>), Status>
     ensures refusals { IfErr result IsOfBytes }
-    ensures map { Makes (λ r. map_of r.0) result (of_four_lumps reading linedefs.now sidedefs.now vertexes.now sectors.now) }
+    ensures map { MakesAnswer (λ r. map_of r.0) result (of_four_lumps reading linedefs.now sidedefs.now vertexes.now sectors.now) }
     ensures dampers { IfOk result (λ r. r.1 ≡ dampers_of reading.format linedefs.now) }
     ensures each { IfOk result (λ r. length r.1 ≡ length r.0.lines) }
 {
@@ -117,7 +117,7 @@ fn read_four(
 /// The four lumps that a text of UDMF stands for, or its first fault.
 fn text_lumps(alloc: Global, text: &[u8]) -> Result<FourLumps, Status>
     ensures refusals { IfErr result IsOfBytes }
-    ensures lumps { Makes lump_bytes result (of_text (lumps_of_text_lem text.now)) }
+    ensures lumps { MakesAnswer lump_bytes result (of_text (lumps_of_text_lem text.now)) }
 {
     match lumps_of_text(alloc, text) {
         Ok(lumps) => Ok(lumps),
@@ -131,7 +131,7 @@ fn text_lumps(alloc: Global, text: &[u8]) -> Result<FourLumps, Status>
 /// The map that a text of UDMF spells, and the lines that block sound; or the first check that fails.
 fn read_text(alloc: Global, reading: Reading, text: &[u8]) -> Result<(Plan, Items<bool>), Status>
     ensures refusals { IfErr result IsOfBytes }
-    ensures map { Makes (λ r. map_of r.0) result (of_text_lump reading text.now) }
+    ensures map { MakesAnswer (λ r. map_of r.0) result (of_text_lump reading text.now) }
     ensures dampers { IfOk result (λ r. r.1 ≡ dampers_of reading.format (linedefs_in (lumps_of_text_lem text.now))) }
     ensures each { IfOk result (λ r. length r.1 ≡ length r.0.lines) }
 {
@@ -159,7 +159,7 @@ fn read_at(
     requires vertexes { spot.now.vertexes < length wad.now.entries }
     requires sectors { spot.now.sectors < length wad.now.entries }
     ensures refusals { IfErr result IsOfBytes }
-    ensures map { Makes (λ r. map_of r.0) result (map_at large (file_of bytes.now wad.now) spot.now) }
+    ensures map { MakesAnswer (λ r. map_of r.0) result (map_at large (file_of bytes.now wad.now) spot.now) }
     ensures dampers { IfOk result (λ r. r.1 ≡ dampers_of spot.now.format (linedefs_by spot.now.text (lump_at (file_of bytes.now wad.now) spot.now.linedefs))) }
     ensures each { IfOk result (λ r. length r.1 ≡ length r.0.lines) }
 {
@@ -191,8 +191,8 @@ pub fn plan_named(
     name: &str,
 ) -> Result<Plan, Status>
     requires inside { All (λ entry. entry.at + entry.size ≤ length bytes.now) wad.now.entries }
-    requires names { names_of (file_of bytes.now wad.now) ≡ entry_names wad.now.entries }
-    ensures map { Makes map_of result (map_named large (file_of bytes.now wad.now) name.now) }
+    requires names { names_of_lumps (file_of bytes.now wad.now) ≡ entry_names wad.now.entries }
+    ensures map { MakesAnswer map_of result (map_named large (file_of bytes.now wad.now) name.now) }
     ensures refusals { IfErr result IsOfBytes }
 {
     let spot = spot(wad, name)?;
@@ -203,9 +203,9 @@ pub fn plan_named(
 /// The map of this name in the bytes of a file, by the usual limits or by the larger ones, or the first check that fails.
 #[tactic(auto, unfolding(crate::specs::Input::found_in))]
 pub fn find_in(alloc: Global, bytes: Vec<u8>, large: bool, name: &str) -> Result<Input, Status>
-    ensures found { Makes found result (found_in large name.now bytes.items) }
+    ensures found { MakesAnswer located_map result (found_in large name.now bytes.items) }
     ensures refusals { IfErr result IsOfBytes }
-    ensures whole { IfOk result IsWhole }
+    ensures whole { IfOk result IsInputWhole }
     ensures dampers { IfOk result HasDampers }
 {
     let wad = directory(alloc, &bytes)?;

@@ -6,7 +6,7 @@ ghost use Rattle.sight_names.specs.Map.{map_of};
 ghost use Rattle.sight_names.specs.Mesh.{IsGoodMesh, IsMeshOf};
 ghost use Rattle.sight_names.specs.Sound.{LinesMeetAtEnds};
 ghost use Rattle.portal_walk.specs.EnoughBudget.Need.{greatest};
-ghost use Rattle.map_answers.specs.SightStatus.Answer.{Gives, line_answer};
+ghost use Rattle.map_answers.specs.SightStatus.Answer.{GivesCalled, line_answer};
 ghost use Rattle.map_answers.specs.Need.{AreNeeds, NeedCalls, need_line};
 ghost use Rattle.map_answers.specs.SightStatus.Status.{IsOfMapTest};
 ghost use Rattle.map_answers.specs.declared.sight_status.status.Status.TheVariants.{Memory};
@@ -62,7 +62,7 @@ fn need_line_of(
 
 /// How great a budget the groups of the map need, where it is sound.
 pub fn judge_need(alloc: Global, plan: &Plan, name: &str) -> Result<String, Status>
-    ensures judged { Gives ⊤ (NeedCalls name.now (map_of plan.now)) (line_answer result) }
+    ensures judged { GivesCalled ⊤ (NeedCalls name.now (map_of plan.now)) (line_answer result) }
     ensures refusals { IfErr result IsOfMapTest }
 {
     let groups = audit_map(alloc, plan)?;

@@ -3,10 +3,10 @@
 ghost use Rattle.std.specs.Prelude.{◌≡◌, ◌++◌, ◌<◌, IfErr, IfOk, MatchOption, OnOk, length, option_map, string_bytes, ⊤};
 ghost use Rattle.std.specs.List.{flat_map};
 ghost use Rattle.sight_names.specs.Map.{map_of};
-ghost use Rattle.map_answers.specs.SightStatus.Answer.{Gives, line_answer};
+ghost use Rattle.map_answers.specs.SightStatus.Answer.{GivesCalled, line_answer};
 ghost use Rattle.map_answers.specs.SightStatus.Status.{IsOfSoundTest};
 ghost use Rattle.map_answers.specs.Noise.{CountCalls, HasDampers, IsMissing, PairCalls, SoundCalls, heard_line, no_noise_line, noise_line, path_line, path_words, side_word};
-ghost use Rattle.map_answers.specs.Views.{found};
+ghost use Rattle.map_answers.specs.Views.{located_map};
 
 use crate::input::Input;
 use crate::sight_status::{
@@ -93,7 +93,7 @@ fn judge_path(alloc: Global, plan: &Plan, dampers: &[bool], pair: Pair) -> Resul
     requires each { length dampers.now ≡ length plan.now.lines }
     requires first { pair.a < plan.now.sectors }
     requires second { pair.b < plan.now.sectors }
-    ensures judged { Gives ⊤ (PairCalls (map_of plan.now) dampers.now pair) (line_answer result) }
+    ensures judged { GivesCalled ⊤ (PairCalls (map_of plan.now) dampers.now pair) (line_answer result) }
     ensures refusals { IfErr result IsOfSoundTest }
 {
     let path = match noise(alloc, plan, dampers, pair.a, pair.b) {
@@ -122,7 +122,7 @@ pub fn missing(plan: &Plan, pair: Pair) -> Option<u16>
 /// The same, where the numbers may be of no sectors.
 fn judge_pair(alloc: Global, plan: &Plan, dampers: &[bool], pair: Pair) -> Result<String, Status>
     requires { length dampers.now ≡ length plan.now.lines }
-    ensures judged { Gives ⊤ (PairCalls (map_of plan.now) dampers.now pair) (line_answer result) }
+    ensures judged { GivesCalled ⊤ (PairCalls (map_of plan.now) dampers.now pair) (line_answer result) }
     ensures refusals { IfErr result IsOfSoundTest }
 {
     if let Some(sector) = missing(plan, pair) {
@@ -134,7 +134,7 @@ fn judge_pair(alloc: Global, plan: &Plan, dampers: &[bool], pair: Pair) -> Resul
 /// How many pairs of sectors hear each other.
 fn judge_counts(alloc: Global, plan: &Plan, name: &str, dampers: &[bool]) -> Result<String, Status>
     requires { length dampers.now ≡ length plan.now.lines }
-    ensures judged { Gives ⊤ (CountCalls name.now (map_of plan.now) dampers.now) (line_answer result) }
+    ensures judged { GivesCalled ⊤ (CountCalls name.now (map_of plan.now) dampers.now) (line_answer result) }
     ensures refusals { IfErr result IsOfSoundTest }
 {
     let heard = match count_heard(alloc, plan, dampers) {
@@ -155,7 +155,7 @@ pub fn judge_sound(
     pair: &Option<Pair>,
 ) -> Result<String, Status>
     requires dampers { HasDampers input.now }
-    ensures judged { Gives ⊤ (SoundCalls name.now pair.now (found input.now)) (line_answer result) }
+    ensures judged { GivesCalled ⊤ (SoundCalls name.now pair.now (located_map input.now)) (line_answer result) }
     ensures refusals { IfErr result IsOfSoundTest }
 {
     let dampers = input.dampers.as_slice();

@@ -2,7 +2,7 @@
 
 ghost use Rattle.std.specs.Prelude.{◌≡◌, IfErr, IfOk, Ok, string_bytes, ⊤};
 ghost use Rattle.sight_names.specs.Map.{map_of};
-ghost use Rattle.map_answers.specs.SightStatus.Answer.{Gives, line_answer};
+ghost use Rattle.map_answers.specs.SightStatus.Answer.{GivesCalled, line_answer};
 ghost use Rattle.map_answers.specs.Ray.{RayCalls, sight_line};
 ghost use Rattle.map_answers.specs.SightStatus.Status.{IsOfRayTest};
 
@@ -21,7 +21,7 @@ fn make_sight_line(alloc: Global, from: u16, to: u16) -> Result<String, AllocErr
 
 /// Whether the ray is a sight ray of the map, and between which sectors.
 pub fn judge_ray(alloc: Global, plan: &Plan, ray: &Ray) -> Result<String, Status>
-    ensures judged { Gives ⊤ (RayCalls ray.now (map_of plan.now)) (line_answer result) }
+    ensures judged { GivesCalled ⊤ (RayCalls ray.now (map_of plan.now)) (line_answer result) }
     ensures refusals { IfErr result IsOfRayTest }
 {
     match check_ray(plan, ray) {

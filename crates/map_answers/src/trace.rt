@@ -5,9 +5,9 @@ ghost use Rattle.std.specs.List.{flat_map};
 ghost use Rattle.sight_names.specs.Map.{map_of};
 ghost use Rattle.sight_names.specs.Mesh.{IsGoodMesh, label_of};
 ghost use Rattle.sight_ray.specs.RayTrace.Trace.{IsTrace};
-ghost use Rattle.map_answers.specs.SightStatus.Answer.{Gives, line_answer};
+ghost use Rattle.map_answers.specs.SightStatus.Answer.{GivesCalled, line_answer};
 ghost use Rattle.map_answers.specs.SightStatus.Status.{IsOfTraceTest};
-ghost use Rattle.map_answers.specs.Trace.{IsTraceRefusal, TraceCalls, changes, group_text, places_of, plus_word, trace_line, word_of};
+ghost use Rattle.map_answers.specs.Trace.{IsTraceRefusal, TraceCalls, changes, group_text, places_of_groups, plus_word, trace_line, group_word_at};
 
 use crate::groups::{MeshGroups, audit_map};
 use crate::sight_status::{Status, Why, push_count, push_number, push_text};
@@ -29,7 +29,7 @@ fn label_at(labels: &Labels, triangle: u16) -> Option<u16>
 
 /// The places of the groups of these triangles, in order.
 fn places_along(alloc: Global, labels: &Labels, passed: &[u16]) -> Result<Vec<u16>, AllocError>
-    ensures { IfOk result (λ places. places.items ≡ places_of labels.now passed.now) }
+    ensures { IfOk result (λ places. places.items ≡ places_of_groups labels.now passed.now) }
 {
     let mut places = Vec::new(alloc);
     for triangle in passed {
@@ -68,7 +68,7 @@ fn push_word(
     groups: &[Group],
     place: u16,
 ) -> Result<(), AllocError>
-    ensures { OnOk result (string_bytes line.new ≡ string_bytes line.old ++ word_of groups.now place) }
+    ensures { OnOk result (string_bytes line.new ≡ string_bytes line.old ++ group_word_at groups.now place) }
 {
     line.push_str(" ")?;
     match groups.get(place as usize) {
@@ -84,7 +84,7 @@ fn push_changes(
     groups: &[Group],
     places: &[u16],
 ) -> Result<(), AllocError>
-    ensures { OnOk result (string_bytes line.new ≡ string_bytes line.old ++ flat_map (word_of groups.now) (changes None places.now)) }
+    ensures { OnOk result (string_bytes line.new ≡ string_bytes line.old ++ flat_map (group_word_at groups.now) (changes None places.now)) }
 {
     let mut last = None;
     for place in places {
@@ -121,7 +121,7 @@ fn trace_ray(alloc: Global, groups: &MeshGroups, ray: &Ray) -> Result<Vec<u16>, 
 
 /// The groups that the ray passes, where the map is sound.
 pub fn judge_trace(alloc: Global, plan: &Plan, ray: &Ray) -> Result<String, Status>
-    ensures judged { Gives ⊤ (TraceCalls ray.now (map_of plan.now)) (line_answer result) }
+    ensures judged { GivesCalled ⊤ (TraceCalls ray.now (map_of plan.now)) (line_answer result) }
     ensures refusals { IfErr result IsOfTraceTest }
 {
     let groups = audit_map(alloc, plan)?;

@@ -16,7 +16,7 @@ use Rattle.geom_exact.specs.Common.{IsRelation}
 use Rattle.geom_exact.proofs.Uniqueness.{one_relation}
 use Rattle.geom_exact.proofs.Meeting.{apart_meet, ends_meet, no_meet_overlap, no_meet_touch, no_meet_cross, meet_swapped, apart_swapped}
 use Rattle.geom_exact.proofs.Filters.{apart_below, apart_before_all}
-use Rattle.map_audit.specs.Audit.{AreFine, FineAt, FineBelow, FineBefore, AreRelated, IsPair, IsFirstPair, IsLineFault, IsFaultOf, fault_by}
+use Rattle.map_audit.specs.Audit.{AreFine, FineAt, FineBelow, FineBefore, AreRelated, AreLinesWith, IsFirstPair, IsLineFault, IsLineFaultOf, fault_by}
 use Rattle.math_base.proofs.Numbers.{below_differs, below_or_above}
 use Rattle.math_base.proofs.Options.{one_value}
 
@@ -80,7 +80,7 @@ unfair i j k l Crossing f e h = no_meet_cross k.first k.second l.first l.second 
 unfair i j k l Overlapping f e h = no_meet_overlap k.first k.second l.first l.second h
 
 pair_of : (p : PlanParts) (i j : ℕ) (one other : Line) (relation : Relation) → option_and_then (λ l. l) (slice_get p.lines i) ≡ Some one → option_and_then (λ l. l) (slice_get p.lines j) ≡ Some other
-    → AreRelated (looked_up p.points one) (looked_up p.points other) relation → IsPair (map_of p) i j relation
+    → AreRelated (looked_up p.points one) (looked_up p.points other) relation → AreLinesWith (map_of p) i j relation
 pair_of p i j one other relation e f h = record {
   one = looked_up p.points one;
   is_one = line_there p i one (sym e);
@@ -91,7 +91,7 @@ pair_of p i j one other relation e f h = record {
 
 -- what a call on two lines answers
 pub answered : (p : PlanParts) (i j : ℕ) (one other : Line) (relation : Relation) (answer : Option LineFault) → option_and_then (λ l. l) (slice_get p.lines i) ≡ Some one → option_and_then (λ l. l) (slice_get p.lines j) ≡ Some other
-    → AreRelated (looked_up p.points one) (looked_up p.points other) relation → answer ≡ fault_by i j relation → MatchOption answer (FineAt (map_of p) i j) (λ f. IsFaultOf (map_of p) i j f)
+    → AreRelated (looked_up p.points one) (looked_up p.points other) relation → answer ≡ fault_by i j relation → MatchOption answer (FineAt (map_of p) i j) (λ f. IsLineFaultOf (map_of p) i j f)
 answered p i j one other relation None e f h g = fine_of (map_of p) i j (looked_up p.points one) (looked_up p.points other) (line_there p i one (sym e)) (line_there p j other (sym f)) (fair i j (looked_up p.points one) (looked_up p.points other) relation (sym g) h)
 answered p i j one other relation (Some fault) e f h g = record { relation = relation; pair = pair_of p i j one other relation e f h; named = sym g }
 
@@ -126,7 +126,7 @@ not_between m f g h k e lt = not_fine m f h (subst (λ (i : ℕ). FineAt m i h.j
 same_number : (a b : ℕ) → ¬ (a < b) → ¬ (b < a) → a ≡ b
 same_number a b h k = grind arith
 
-same_relation : (m : Map) (i j i' j' : ℕ) (r r' : Relation) → i ≡ i' → j ≡ j' → IsPair m i j r → IsPair m i' j' r' → r ≡ r'
+same_relation : (m : Map) (i j i' j' : ℕ) (r r' : Relation) → i ≡ i' → j ≡ j' → AreLinesWith m i j r → AreLinesWith m i' j' r' → r ≡ r'
 same_relation m i j i' j' r r' ei ej p q =
     let a = one_value (line_at m i') p.one q.one (subst (λ (n : ℕ). line_at m n ≡ Some p.one) ei p.is_one) q.is_one in
     let b = one_value (line_at m j') p.other q.other (subst (λ (n : ℕ). line_at m n ≡ Some p.other) ej p.is_other) q.is_other in

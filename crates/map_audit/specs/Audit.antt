@@ -34,7 +34,7 @@ abbrev pub AreRelated : MapLine → MapLine → Relation → Type 0
 AreRelated k l relation = IsRelation k.first k.second l.first l.second relation
 
 -- the lines with these two record numbers have this in common
-pub record IsPair (m : Map) (i j : ℕ) (relation : Relation) : Type 0 where
+pub record AreLinesWith (m : Map) (i j : ℕ) (relation : Relation) : Type 0 where
   pub one : MapLine
   pub is_one : line_at m i ≡ Some one
   pub other : MapLine
@@ -44,7 +44,7 @@ pub record IsPair (m : Map) (i j : ℕ) (relation : Relation) : Type 0 where
 -- and all pairs before this one, by the first number and then the second, are fine
 pub record IsFirstPair (m : Map) (i j : ℕ) (relation : Relation) : Type 0 where
   pub ordered : i < j
-  pub pair : IsPair m i j relation
+  pub pair : AreLinesWith m i j relation
   pub earlier : FineBefore m i
   pub between : FineBelow m i j
 
@@ -63,7 +63,7 @@ fault_by i j Crossing = Some (Cross i j)
 fault_by i j Overlapping = Some (Overlap i j)
 
 -- the fault of this pair of records
-pub record IsFaultOf (m : Map) (i j : ℕ) (fault : LineFault) : Type 0 where
+pub record IsLineFaultOf (m : Map) (i j : ℕ) (fault : LineFault) : Type 0 where
   pub relation : Relation
-  pub pair : IsPair m i j relation
+  pub pair : AreLinesWith m i j relation
   pub named : fault_by i j relation ≡ Some fault

@@ -6,7 +6,7 @@ ghost use Rattle.sight_names.specs.Map.{map_of, looked_up};
 ghost use Rattle.sight_names.specs.Plan.{IsPlan, IsPlanLine};
 ghost use Rattle.sight_names.specs.Sound.{LinesMeetAtEnds};
 ghost use Rattle.geom_exact.specs.LineSpans.Spans.{AreSpans, IsSpanIn};
-ghost use Rattle.map_audit.specs.Audit.{AreRelated, FineAt, FineBefore, FineFrom, IsFaultOf, IsLineFault, fault_by};
+ghost use Rattle.map_audit.specs.Audit.{AreRelated, FineAt, FineBefore, FineFrom, IsLineFaultOf, IsLineFault, fault_by};
 
 use geom_exact::line_spans::{NO_SPAN, Span, ends_below, put_spans};
 use geom_exact::{Relation, seg_relation};
@@ -143,7 +143,7 @@ fn fault_of_line(plan: &Plan, i: u16, line: Line) -> Option<LineFault>
 fn fault_with(plan: &Plan, i: u16, line: Line, j: u16) -> Option<LineFault>
     requires there { option_and_then (λ l. l) (slice_get plan.now.lines i) ≡ Some line }
     requires fits { IsPlanLine plan.now.sectors (length plan.now.points) line }
-    ensures { MatchOption result (FineAt (map_of plan.now) i j) (λ f. IsFaultOf (map_of plan.now) i j f) }
+    ensures { MatchOption result (FineAt (map_of plan.now) i j) (λ f. IsLineFaultOf (map_of plan.now) i j f) }
 {
     let other = plan.line(j)?;
     fault_of_pair(i, j, relation(plan, line, other))

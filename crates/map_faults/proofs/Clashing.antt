@@ -22,7 +22,7 @@ use Rattle.map_audit.proofs.AuditLemmas.{lines_before, fine_without_first}
 use Rattle.map_audit.proofs.SweepLemmas.{swapped}
 use Rattle.map_faults.specs.declared.clashes.LinePair.{LinePair}
 use Rattle.map_faults.specs.declared.clashes.TheConstants.{MOST_CLASHES}
-use Rattle.map_faults.specs.Clashes.{numbered, IsClash, IsEarlier, AreFirstClashes, AreLaterClashes, AreClashesOf, AddsIfClash, AreInOrder}
+use Rattle.map_faults.specs.Clashes.{clash_of_lines, IsClash, IsEarlierClash, AreFirstClashes, AreLaterClashes, AreClashesOf, AddsIfClash, AreNumbersInOrder}
 use Rattle.map_faults.proofs.Ordered.{ascends_join, ascends_map, take_joined}
 
 -- ---- the sweep of one line, from the last place back
@@ -47,7 +47,7 @@ IsSettled m i js j = i < j → FineAt m i j ⊎ Contains js j
 -- the places from k on are looked at: what was found clashes, and the other records are fine
 pub record IsSearched (p : PlanParts) (s : Span) (ss : List Span) (k : ℕ) (js : List ℕ) : Type 0 where
   pub within : k ≤ length ss
-  pub each : (j : ℕ) → Contains js j → IsClash (map_of p) (numbered s.line j)
+  pub each : (j : ℕ) → Contains js j → IsClash (map_of p) (clash_of_lines s.line j)
   pub rest : (q : ℕ) → k ≤ q → q < length ss → (d : Span) → IsSettled (map_of p) s.line js (get_or ss q d).line
   pub few : length js + k ≤ length ss
 
@@ -98,7 +98,7 @@ searched_more p s ss k old new e up w adds = go adds
     go : AddsIfClash (map_of p) s.line (get_or ss (k - 1) e).line old new → IsSearched p s ss (k - 1) new
     go (inl h) = let j = (get_or ss (k - 1) e).line in subst (IsSearched p s ss (k - 1)) (sym h.1) (record {
       within = let a = w.within in omega arith;
-      each = λ n c. elim (contains_append n old (j ∷ []) c) as (λ _. IsClash (map_of p) (numbered s.line n)) [ inl before ↦ w.each n before | inr one ↦ subst (λ (x : ℕ). IsClash (map_of p) (numbered s.line x)) (contains_one n j one) h.0 ];
+      each = λ n c. elim (contains_append n old (j ∷ []) c) as (λ _. IsClash (map_of p) (clash_of_lines s.line n)) [ inl before ↦ w.each n before | inr one ↦ subst (λ (x : ℕ). IsClash (map_of p) (clash_of_lines s.line x)) (contains_one n j one) h.0 ];
       rest = all_from (IsSettled (map_of p) s.line (old ++ j ∷ [])) (λ lt. inr (contains_right j old (j ∷ []) (contains_here j []))) (λ q le hq d lt. elim (w.rest q le hq d lt) as (λ _. FineAt (map_of p) s.line (get_or ss q d).line ⊎ Contains (old ++ j ∷ []) (get_or ss q d).line) [ inl fine ↦ inl fine | inr c ↦ inr (contains_left (get_or ss q d).line old (j ∷ []) c) ]);
       few = let a = w.few in let b = length_pushed old j in omega arith;
     })
@@ -129,7 +129,7 @@ none_without p i js none e = record {
   rest = λ j lt. inl (fine_without_first p i j e);
 }
 
-pub clashes_in_order : (m : Map) (i : ℕ) (all js : List ℕ) → AreLaterClashes m i all → AreInOrder all js → AreClashesOf m i js
+pub clashes_in_order : (m : Map) (i : ℕ) (all js : List ℕ) → AreLaterClashes m i all → AreNumbersInOrder all js → AreClashesOf m i js
 clashes_in_order m i all js h order = record {
   later = record {
     each = λ j c. h.each j ((order.exactly j).0 c);
@@ -143,8 +143,8 @@ clashes_in_order m i all js h order = record {
 -- just the pairs whose first number is below n, in order
 pub record AreClashesBelow (m : Map) (n : ℕ) (ps : List LinePair) : Type 0 where
   pub each : (p : LinePair) → Contains ps p → IsClash m p × (p.i < n)
-  pub rest : (i j : ℕ) → i < n → i < j → FineAt m i j ⊎ Contains ps (numbered i j)
-  pub ascend : Ascends IsEarlier ps
+  pub rest : (i j : ℕ) → i < n → i < j → FineAt m i j ⊎ Contains ps (clash_of_lines i j)
+  pub ascend : Ascends IsEarlierClash ps
 
 no_clashes : (m : Map) → AreClashesBelow m 0 []
 no_clashes m = record { each = λ p c. absurd (contains_none p c); rest = λ i j lt. absurd (omega arith); ascend = λ i j x y lt a b. absurd (none-some x a) }
@@ -153,31 +153,31 @@ no_clashes m = record { each = λ p c. absurd (contains_none p c); rest = λ i j
 record IsOneOf (i : ℕ) (js : List ℕ) (p : LinePair) : Type 0 where
   j : ℕ
   one : Contains js j
-  is : p ≡ numbered i j
+  is : p ≡ clash_of_lines i j
 
-one_of : (i : ℕ) (js : List ℕ) (p : LinePair) → Contains (map (numbered i) js) p → IsOneOf i js p
+one_of : (i : ℕ) (js : List ℕ) (p : LinePair) → Contains (map (clash_of_lines i) js) p → IsOneOf i js p
 one_of i [] p c = absurd (contains_none p c)
-one_of i (j ∷ js) p c = go (contains_cons p (numbered i j) (map (numbered i) js) c) (one_of i js p)
+one_of i (j ∷ js) p c = go (contains_cons p (clash_of_lines i j) (map (clash_of_lines i) js) c) (one_of i js p)
   where
-    go : (numbered i j ≡ p) ⊎ Contains (map (numbered i) js) p → (Contains (map (numbered i) js) p → IsOneOf i js p) → IsOneOf i (j ∷ js) p
+    go : (clash_of_lines i j ≡ p) ⊎ Contains (map (clash_of_lines i) js) p → (Contains (map (clash_of_lines i) js) p → IsOneOf i js p) → IsOneOf i (j ∷ js) p
     go (inl e) rest = record { j = j; one = contains_here j js; is = sym e }
     go (inr c) rest = let w = rest c in record { j = w.j; one = contains_there w.j j js w.one; is = w.is }
 
-pub clashes_more : (m : Map) (n : ℕ) (ps : List LinePair) (js : List ℕ) → AreClashesBelow m n ps → AreClashesOf m n js → AreClashesBelow m (n + 1) (ps ++ map (numbered n) js)
+pub clashes_more : (m : Map) (n : ℕ) (ps : List LinePair) (js : List ℕ) → AreClashesBelow m n ps → AreClashesOf m n js → AreClashesBelow m (n + 1) (ps ++ map (clash_of_lines n) js)
 clashes_more m n ps js w h = record {
-  each = λ p c. elim (contains_append p ps (map (numbered n) js) c) as (λ _. IsClash m p × (p.i < n + 1)) [
+  each = λ p c. elim (contains_append p ps (map (clash_of_lines n) js) c) as (λ _. IsClash m p × (p.i < n + 1)) [
     | inl before ↦ let v = w.each p before in let lt = v.1 in (v.0, omega arith)
     | inr here ↦ let one = one_of n js p here in subst (λ (q : LinePair). IsClash m q × (q.i < n + 1)) (sym one.is) (h.later.each one.j one.one, omega arith)
   ];
-  rest = λ i j lt up. elim (below_or_last i n lt) as (λ _. FineAt m i j ⊎ Contains (ps ++ map (numbered n) js) (numbered i j)) [
-    | inl below ↦ elim (w.rest i j below up) as (λ _. FineAt m i j ⊎ Contains (ps ++ map (numbered n) js) (numbered i j)) [ inl fine ↦ inl fine | inr c ↦ inr (contains_left (numbered i j) ps (map (numbered n) js) c) ]
-    | inr last ↦ subst (λ (x : ℕ). FineAt m x j ⊎ Contains (ps ++ map (numbered n) js) (numbered x j)) (sym last) (at_last j (subst (λ (x : ℕ). x < j) last up))
+  rest = λ i j lt up. elim (below_or_last i n lt) as (λ _. FineAt m i j ⊎ Contains (ps ++ map (clash_of_lines n) js) (clash_of_lines i j)) [
+    | inl below ↦ elim (w.rest i j below up) as (λ _. FineAt m i j ⊎ Contains (ps ++ map (clash_of_lines n) js) (clash_of_lines i j)) [ inl fine ↦ inl fine | inr c ↦ inr (contains_left (clash_of_lines i j) ps (map (clash_of_lines n) js) c) ]
+    | inr last ↦ subst (λ (x : ℕ). FineAt m x j ⊎ Contains (ps ++ map (clash_of_lines n) js) (clash_of_lines x j)) (sym last) (at_last j (subst (λ (x : ℕ). x < j) last up))
   ];
-  ascend = ascends_join IsEarlier ps (map (numbered n) js) w.ascend (ascends_map n js h.ascend) (λ p q c d. let a = (w.each p c).1 in let one = one_of n js q d in inl (subst (λ (x : LinePair). p.i < x.i) (sym one.is) a));
+  ascend = ascends_join IsEarlierClash ps (map (clash_of_lines n) js) w.ascend (ascends_map n js h.ascend) (λ p q c d. let a = (w.each p c).1 in let one = one_of n js q d in inl (subst (λ (x : LinePair). p.i < x.i) (sym one.is) a));
 }
   where
-    at_last : (j : ℕ) → n < j → FineAt m n j ⊎ Contains (ps ++ map (numbered n) js) (numbered n j)
-    at_last j up = elim (h.later.rest j up) as (λ _. FineAt m n j ⊎ Contains (ps ++ map (numbered n) js) (numbered n j)) [ inl fine ↦ inl fine | inr c ↦ inr (contains_right (numbered n j) ps (map (numbered n) js) (contains_map (numbered n) js j c)) ]
+    at_last : (j : ℕ) → n < j → FineAt m n j ⊎ Contains (ps ++ map (clash_of_lines n) js) (clash_of_lines n j)
+    at_last j up = elim (h.later.rest j up) as (λ _. FineAt m n j ⊎ Contains (ps ++ map (clash_of_lines n) js) (clash_of_lines n j)) [ inl fine ↦ inl fine | inr c ↦ inr (contains_right (clash_of_lines n j) ps (map (clash_of_lines n) js) (contains_map (clash_of_lines n) js j c)) ]
 
 -- the first of all pairs so far, and how many there are
 pub record AreCounted (p : PlanParts) (n : ℕ) (first : List LinePair) (count : ℕ) : Type 0 where
@@ -191,24 +191,24 @@ pub none_counted : (p : PlanParts) → AreCounted p 0 [] 0
 none_counted p = record { all = []; are = no_clashes (map_of p); first_of_all = refl; count_of_all = refl; few = omega arith }
 
 pub counted_more : (p : PlanParts) (n : ℕ) (first new : List LinePair) (count : ℕ) (js : List ℕ) → AreCounted p n first count → AreClashesOf (map_of p) n js → length js ≤ 32768
-    → new ≡ take MOST_CLASHES (first ++ map (numbered n) js) → AreCounted p (n + 1) new (count + length js)
+    → new ≡ take MOST_CLASHES (first ++ map (clash_of_lines n) js) → AreCounted p (n + 1) new (count + length js)
 counted_more p n first new count js w h le e = record {
-  all = w.all ++ map (numbered n) js;
+  all = w.all ++ map (clash_of_lines n) js;
   are = clashes_more (map_of p) n w.all js w.are h;
-  first_of_all = e ∙ ap (λ (xs : List LinePair). take MOST_CLASHES (xs ++ map (numbered n) js)) w.first_of_all ∙ take_joined MOST_CLASHES w.all (map (numbered n) js);
+  first_of_all = e ∙ ap (λ (xs : List LinePair). take MOST_CLASHES (xs ++ map (clash_of_lines n) js)) w.first_of_all ∙ take_joined MOST_CLASHES w.all (map (clash_of_lines n) js);
   count_of_all = let a = w.count_of_all in let b = both w.all js in omega arith;
   few = let a = w.few in omega arith;
 }
   where
-    both : (ps : List LinePair) (js : List ℕ) → length (ps ++ map (numbered n) js) ≡ length ps + length js
-    both ps js = length-append ps (map (numbered n) js) ∙ ap (λ (k : ℕ). length ps + k) (length-map js (numbered n))
+    both : (ps : List LinePair) (js : List ℕ) → length (ps ++ map (clash_of_lines n) js) ≡ length ps + length js
+    both ps js = length-append ps (map (clash_of_lines n) js) ∙ ap (λ (k : ℕ). length ps + k) (length-map js (clash_of_lines n))
 
 pub counted_all : (p : PlanParts) (n : ℕ) (first : List LinePair) (count : ℕ) → length p.lines ≤ n → AreCounted p n first count → AreFirstClashes (map_of p) first count
 counted_all p n first count le w = record {
   all = w.all;
   are = record {
     each = λ q c. (w.are.each q c).0;
-    rest = λ i j lt. elim (below_or_not i n) as (λ _. FineAt (map_of p) i j ⊎ Contains w.all (numbered i j)) [ inl below ↦ w.are.rest i j below lt | inr past ↦ inl (swapped (map_of p) j i (fine_past p j i (omega arith))) ];
+    rest = λ i j lt. elim (below_or_not i n) as (λ _. FineAt (map_of p) i j ⊎ Contains w.all (clash_of_lines i j)) [ inl below ↦ w.are.rest i j below lt | inr past ↦ inl (swapped (map_of p) j i (fine_past p j i (omega arith))) ];
     ascend = w.are.ascend;
   };
   first_of_all = w.first_of_all;

@@ -22,19 +22,19 @@ use Rattle.geom_exact.specs.declared.Relation.TheVariants.{Apart, Ends, Cross, T
 use Rattle.geom_exact.specs.Formulas.{turn_of}
 use Rattle.geom_exact.proofs.Meeting.{no_meet_cross, no_meet_overlap, no_meet_touch}
 use Rattle.geom_exact.proofs.Uniqueness.{one_relation}
-use Rattle.map_audit.specs.Audit.{AreRelated, FineAt, IsFaultOf, fault_by}
+use Rattle.map_audit.specs.Audit.{AreRelated, FineAt, IsLineFaultOf, fault_by}
 use Rattle.mesh_shape.specs.Faults.{IsSideBefore}
 use Rattle.mesh_shape.specs.HalfEdges.Numbers.{edge}
 use Rattle.map_faults.specs.declared.clashes.LinePair.{LinePair}
 use Rattle.map_faults.specs.declared.clashes.TheConstants.{MOST_CLASHES}
 use Rattle.map_faults.specs.declared.loose_ends.LooseEnd.{LooseEnd}
 use Rattle.map_faults.specs.declared.tears.Tear.{Tear}
-use Rattle.map_faults.specs.Clashes.{AreClashes, AreFirstClashes, AreInOrder, IsClash, IsEarlier}
+use Rattle.map_faults.specs.Clashes.{AreClashes, AreFirstClashes, AreNumbersInOrder, IsClash, IsEarlierClash}
 use Rattle.map_faults.specs.Corners.{AreCornersOf, IsOneCornerOf, IsRoundedDown}
 use Rattle.map_faults.specs.EdgeSides.{side_by}
 use Rattle.map_faults.specs.LooseEnds.{AreLooseEnds}
 use Rattle.map_faults.specs.OpenSides.{AreOpenSides}
-use Rattle.map_faults.specs.Tears.{AreTearsBy, DoDiffer, IsBorder, IsTear, IsTearBefore, IsTurn}
+use Rattle.map_faults.specs.Tears.{AreTearsBy, DoDiffer, IsBorder, IsTear, IsTearBefore, TurnsRound}
 
 -- ---- numbers in order
 
@@ -44,13 +44,13 @@ not_itself x h = omega arith
 not_turned : (x y : ℕ) → x < y → y < x → ⊥
 not_turned x y h k = omega arith
 
-pub one_order : (all more ns os : List ℕ) → AreInOrder all ns → AreInOrder more os → ((n : ℕ) → Contains all n → Contains more n) → ((n : ℕ) → Contains more n → Contains all n) → ns ≡ os
+pub one_order : (all more ns os : List ℕ) → AreNumbersInOrder all ns → AreNumbersInOrder more os → ((n : ℕ) → Contains all n → Contains more n) → ((n : ℕ) → Contains more n → Contains all n) → ns ≡ os
 one_order all more ns os f g there back =
     same_ascending (λ x y. x < y) not_itself not_turned ns os f.ascend g.ascend (λ n c. (g.exactly n).1 (there n ((f.exactly n).0 c))) (λ n c. (f.exactly n).1 (back n ((g.exactly n).0 c)))
 
 -- ---- a pair of lines
 
-pub not_fine : (m : Map) (i j : ℕ) (f : LineFault) → IsFaultOf m i j f → FineAt m i j → ⊥
+pub not_fine : (m : Map) (i j : ℕ) (f : LineFault) → IsLineFaultOf m i j f → FineAt m i j → ⊥
 not_fine m i j f h fine = go h.relation h.pair.related h.named (fine h.pair.one h.pair.other h.pair.is_one h.pair.is_other)
   where
     go : (r : Relation) → AreRelated h.pair.one h.pair.other r → fault_by i j r ≡ Some f → MeetAtEnds h.pair.one.first h.pair.one.second h.pair.other.first h.pair.other.second → ⊥
@@ -60,7 +60,7 @@ not_fine m i j f h fine = go h.relation h.pair.related h.named (fine h.pair.one 
     go Touch related e meet = no_meet_touch h.pair.one.first h.pair.one.second h.pair.other.first h.pair.other.second related meet
     go Overlap related e meet = no_meet_overlap h.pair.one.first h.pair.one.second h.pair.other.first h.pair.other.second related meet
 
-pub one_fault_of : (m : Map) (i j : ℕ) (f g : LineFault) → IsFaultOf m i j f → IsFaultOf m i j g → f ≡ g
+pub one_fault_of : (m : Map) (i j : ℕ) (f g : LineFault) → IsLineFaultOf m i j f → IsLineFaultOf m i j g → f ≡ g
 one_fault_of m i j f g h k = joined (sym h.named ∙ ap (fault_by i j) same ∙ k.named)
   where
     first : h.pair.one ≡ k.pair.one
@@ -76,7 +76,7 @@ one_fault_of m i j f g h k = joined (sym h.named ∙ ap (fault_by i j) same ∙ 
     joined e = cc
 
 -- lines that clash have a point in common
-common : (m : Map) (i j : ℕ) (f : LineFault) (h : IsFaultOf m i j f) → (z : Point) × IsCommon h.pair.one.first h.pair.one.second h.pair.other.first h.pair.other.second z
+common : (m : Map) (i j : ℕ) (f : LineFault) (h : IsLineFaultOf m i j f) → (z : Point) × IsCommon h.pair.one.first h.pair.one.second h.pair.other.first h.pair.other.second z
 common m i j f h = go h.relation h.pair.related h.named
   where
     go : (r : Relation) → AreRelated h.pair.one h.pair.other r → fault_by i j r ≡ Some f → (z : Point) × IsCommon h.pair.one.first h.pair.one.second h.pair.other.first h.pair.other.second z
@@ -129,7 +129,7 @@ module _ (k l : MapLine) (z : Point) (at : IsCommon k.first k.second l.first l.s
   one_meeting (Some c) None a b = absurd (a.0 b)
   one_meeting (Some c) (Some e) a b = ap (λ (p : Pt). Some p) (one_rounded z c e (a.1 z at) (b.1 z at))
 
-pub one_corner : (m : Map) (i j : ℕ) (f : LineFault) (o u : Option Pt) → IsFaultOf m i j f → AreCornersOf m i j o → AreCornersOf m i j u → o ≡ u
+pub one_corner : (m : Map) (i j : ℕ) (f : LineFault) (o u : Option Pt) → IsLineFaultOf m i j f → AreCornersOf m i j o → AreCornersOf m i j u → o ≡ u
 one_corner m i j f o u h g n =
     let z = common m i j f h in
     let k = h.pair.one in
@@ -138,11 +138,11 @@ one_corner m i j f o u h g n =
 
 -- ---- all clashes
 
-earlier_itself : (p : LinePair) → IsEarlier p p → ⊥
+earlier_itself : (p : LinePair) → IsEarlierClash p p → ⊥
 earlier_itself p (inl h) = omega arith
 earlier_itself p (inr h) = let k = h.1 in omega arith
 
-earlier_turned : (p q : LinePair) → IsEarlier p q → IsEarlier q p → ⊥
+earlier_turned : (p q : LinePair) → IsEarlierClash p q → IsEarlierClash q p → ⊥
 earlier_turned p q (inl h) (inl k) = omega arith
 earlier_turned p q (inl h) (inr k) = let e = k.0 in omega arith
 earlier_turned p q (inr h) (inl k) = let e = h.0 in omega arith
@@ -152,7 +152,7 @@ clash_there : (m : Map) (qs : List LinePair) → AreClashes m qs → (p : LinePa
 clash_there m qs k p c = elim (k.rest p.i p.j c.ordered) as (λ _. Contains qs p) [ inl fine ↦ absurd (not_fine m p.i p.j c.fault c.is fine) | inr there ↦ there ]
 
 one_clashes : (m : Map) (ps qs : List LinePair) → AreClashes m ps → AreClashes m qs → ps ≡ qs
-one_clashes m ps qs h k = same_ascending IsEarlier earlier_itself earlier_turned ps qs h.ascend k.ascend (λ p c. clash_there m qs k p (h.each p c)) (λ p c. clash_there m ps h p (k.each p c))
+one_clashes m ps qs h k = same_ascending IsEarlierClash earlier_itself earlier_turned ps qs h.ascend k.ascend (λ p c. clash_there m qs k p (h.each p c)) (λ p c. clash_there m ps h p (k.each p c))
 
 pub one_first : (m : Map) (ps qs : List LinePair) (c d : ℕ) → AreFirstClashes m ps c → AreFirstClashes m qs d → (ps ≡ qs) × (c ≡ d)
 one_first m ps qs c d h k =
@@ -195,7 +195,7 @@ module _ (ts : List Triangle) (ss us : List (Option Side)) (same : (e : Edge) �
   border_back e (inl h) = inl (h.0, same e ∙ h.1)
   border_back e (inr h) = inr h
 
-  pub turn_too : (point x : ℕ) (ys : List ℕ) (w : ℕ) → IsTurn ts ss point x ys w → IsTurn ts us point x ys w
+  pub turn_too : (point x : ℕ) (ys : List ℕ) (w : ℕ) → TurnsRound ts ss point x ys w → TurnsRound ts us point x ys w
   turn_too point x [] w h = (h.0, border_too (edge point w) h.1)
   turn_too point x (y ∷ ys) w h = (h.0, (λ b. h.1 (border_back (edge point y) b)), turn_too point y ys w h.2)
 
@@ -220,10 +220,10 @@ one_tears p ts ss us same tears more h k =
     (corners_too ts ss us same p tears more h k) (corners_too ts us ss (λ e. sym (same e)) p more tears k h)
 
 -- the way of a turn
-pub one_way : (ts : List Triangle) (ss : List (Option Side)) (point x : ℕ) (ys zs : List ℕ) (w : ℕ) → IsTurn ts ss point x ys w → IsTurn ts ss point x zs w → ys ≡ zs
+pub one_way : (ts : List Triangle) (ss : List (Option Side)) (point x : ℕ) (ys zs : List ℕ) (w : ℕ) → TurnsRound ts ss point x ys w → TurnsRound ts ss point x zs w → ys ≡ zs
 one_way ts ss point x [] [] w h k = refl
 one_way ts ss point x [] (z ∷ zs) w h k = absurd (k.1 (subst (λ (u : ℕ). IsBorder ts ss (edge point u)) (same_Some w z (sym h.0 ∙ k.0)) h.1))
 one_way ts ss point x (y ∷ ys) [] w h k = absurd (h.1 (subst (λ (u : ℕ). IsBorder ts ss (edge point u)) (same_Some w y (sym k.0 ∙ h.0)) k.1))
 one_way ts ss point x (y ∷ ys) (z ∷ zs) w h k =
     let e = same_Some z y (sym k.0 ∙ h.0) in
-    ap₂ (λ (u : ℕ) (us : List ℕ). u ∷ us) (sym e) (one_way ts ss point y ys zs w h.2 (subst (λ (u : ℕ). IsTurn ts ss point u zs w) e k.2))
+    ap₂ (λ (u : ℕ) (us : List ℕ). u ∷ us) (sym e) (one_way ts ss point y ys zs w h.2 (subst (λ (u : ℕ). TurnsRound ts ss point u zs w) e k.2))

@@ -14,7 +14,7 @@ use Rattle.math_base.proofs.Lists.{all_at, map_pushed, contains_none, contains_c
 use Rattle.sight_names.specs.Order.{Ascends}
 use Rattle.sight_names.proofs.Lists.{contains_of_get, ascends_tail, ascends_head}
 use Rattle.map_faults.specs.declared.clashes.LinePair.{LinePair}
-use Rattle.map_faults.specs.Clashes.{numbered, IsEarlier, AreInOrder}
+use Rattle.map_faults.specs.Clashes.{clash_of_lines, IsEarlierClash, AreNumbersInOrder}
 
 -- ---- sorted and without repeats
 
@@ -32,10 +32,10 @@ ascend_later (x ∷ xs) h zero (suc j) n o lt p q = subst (λ (y : ℕ). y < o) 
 ascend_later (x ∷ xs) h (suc i) zero n o lt p q = absurd (omega arith)
 ascend_later (x ∷ xs) h (suc i) (suc j) n o lt p q = ascend_later xs h.1 i j n o (omega arith) p q
 
-pub in_order_of : (all sorted left : List ℕ) → IsPermutation all sorted → IsSorted nat_cmp sorted → IsFiltered (DiffersFromLast (λ (a b : ℕ). a == b)) [] sorted left → AreInOrder all left
+pub in_order_of : (all sorted left : List ℕ) → IsPermutation all sorted → IsSorted nat_cmp sorted → IsFiltered (DiffersFromLast (λ (a b : ℕ). a == b)) [] sorted left → AreNumbersInOrder all left
 in_order_of all sorted left moved up kept =
     let is : left ≡ dedup (λ (a b : ℕ). a == b) sorted = dedup_is (λ (a b : ℕ). a == b) sorted left kept in
-    subst (AreInOrder all) (sym is) (record {
+    subst (AreNumbersInOrder all) (sym is) (record {
       ascend = ascend_later (dedup (λ (a b : ℕ). a == b) sorted) (IsStrictlySortedBy-dedup nat_cmp_total (λ n o. ties n o) sorted up);
       exactly = λ n. (
         λ c. Contains-permutation sorted all n (IsPermutation-sym all sorted moved) (Contains-from_dedup (λ (a b : ℕ). a == b) sorted n c),
@@ -68,14 +68,14 @@ one_behind {X} R old new up before =
     (λ x y c d. subst (R x) (contains_one y new d) (before x c))
 
 -- the pairs of one number
-pub ascends_map : (n : ℕ) (js : List ℕ) → Ascends (λ x y. x < y) js → Ascends IsEarlier (map (numbered n) js)
+pub ascends_map : (n : ℕ) (js : List ℕ) → Ascends (λ x y. x < y) js → Ascends IsEarlierClash (map (clash_of_lines n) js)
 ascends_map n [] up = λ i j x y lt a b. absurd (none-some x a)
-ascends_map n (j ∷ js) up = ascends_cons IsEarlier (numbered n j) (map (numbered n) js) (first js (λ k c. ascends_head (λ x y. x < y) j k js up c)) (ascends_map n js (ascends_tail (λ x y. x < y) j js up))
+ascends_map n (j ∷ js) up = ascends_cons IsEarlierClash (clash_of_lines n j) (map (clash_of_lines n) js) (first js (λ k c. ascends_head (λ x y. x < y) j k js up c)) (ascends_map n js (ascends_tail (λ x y. x < y) j js up))
   where
-    first : (ks : List ℕ) → ((k : ℕ) → Contains ks k → j < k) → (p : LinePair) → Contains (map (numbered n) ks) p → IsEarlier (numbered n j) p
+    first : (ks : List ℕ) → ((k : ℕ) → Contains ks k → j < k) → (p : LinePair) → Contains (map (clash_of_lines n) ks) p → IsEarlierClash (clash_of_lines n j) p
     first [] above p c = absurd (contains_none p c)
-    first (k ∷ ks) above p c = elim (contains_cons p (numbered n k) (map (numbered n) ks) c) as (λ _. IsEarlier (numbered n j) p) [
-      | inl e ↦ subst (IsEarlier (numbered n j)) e (inr (refl, above k (contains_here k ks)))
+    first (k ∷ ks) above p c = elim (contains_cons p (clash_of_lines n k) (map (clash_of_lines n) ks) c) as (λ _. IsEarlierClash (clash_of_lines n j) p) [
+      | inl e ↦ subst (IsEarlierClash (clash_of_lines n j)) e (inr (refl, above k (contains_here k ks)))
       | inr d ↦ first ks (λ x c. above x (contains_there x k ks c)) p d
     ]
 
@@ -88,24 +88,24 @@ take_joined (suc n) (x ∷ xs) ys = ap (λ zs. x ∷ zs) (take_joined n xs ys)
 
 -- the pairs with the first n numbers stand behind the others
 abbrev pub AreKept : ℕ → List LinePair → List ℕ → ℕ → List LinePair → Type 0
-AreKept i old js n new = new ≡ old ++ map (numbered i) (take n js)
+AreKept i old js n new = new ≡ old ++ map (clash_of_lines i) (take n js)
 
 pub none_kept : (i : ℕ) (old : List LinePair) (js : List ℕ) → AreKept i old js 0 old
 none_kept i old js = sym (append-nil old)
 
-pub kept_more : (i : ℕ) (old now : List LinePair) (js : List ℕ) (n d : ℕ) → n < length js → AreKept i old js n now → AreKept i old js (n + 1) (now ++ numbered i (get_or js n d) ∷ [])
+pub kept_more : (i : ℕ) (old now : List LinePair) (js : List ℕ) (n d : ℕ) → n < length js → AreKept i old js n now → AreKept i old js (n + 1) (now ++ clash_of_lines i (get_or js n d) ∷ [])
 kept_more i old now js n d lt h =
     let j = get_or js n d in
-    ap (λ (ps : List LinePair). ps ++ numbered i j ∷ []) h ∙ append_assoc old (map (numbered i) (take n js)) (numbered i j ∷ []) ∙ ap (λ (ps : List LinePair). old ++ ps) (sym (ap (map (numbered i)) (take_more js n d lt) ∙ map_pushed (numbered i) (take n js) j))
+    ap (λ (ps : List LinePair). ps ++ clash_of_lines i j ∷ []) h ∙ append_assoc old (map (clash_of_lines i) (take n js)) (clash_of_lines i j ∷ []) ∙ ap (λ (ps : List LinePair). old ++ ps) (sym (ap (map (clash_of_lines i)) (take_more js n d lt) ∙ map_pushed (clash_of_lines i) (take n js) j))
 
 -- as many as wanted
-pub kept_enough : (i most : ℕ) (old now : List LinePair) (js : List ℕ) (n : ℕ) → AreKept i old js n now → length now ≡ most → now ≡ take most (old ++ map (numbered i) js)
+pub kept_enough : (i most : ℕ) (old now : List LinePair) (js : List ℕ) (n : ℕ) → AreKept i old js n now → length now ≡ most → now ≡ take most (old ++ map (clash_of_lines i) js)
 kept_enough i most old now js n h len =
-    let rest = map (numbered i) (drop n js) in
-    let whole : now ++ rest ≡ old ++ map (numbered i) js =
-    ap (λ (ps : List LinePair). ps ++ rest) h ∙ append_assoc old (map (numbered i) (take n js)) rest ∙ ap (λ (ps : List LinePair). old ++ ps) (sym (map-append (numbered i) (take n js) (drop n js)) ∙ ap (map (numbered i)) (take-append-drop n js)) in
+    let rest = map (clash_of_lines i) (drop n js) in
+    let whole : now ++ rest ≡ old ++ map (clash_of_lines i) js =
+    ap (λ (ps : List LinePair). ps ++ rest) h ∙ append_assoc old (map (clash_of_lines i) (take n js)) rest ∙ ap (λ (ps : List LinePair). old ++ ps) (sym (map-append (clash_of_lines i) (take n js) (drop n js)) ∙ ap (map (clash_of_lines i)) (take-append-drop n js)) in
     sym (take_at now rest most len) ∙ ap (take most) whole
 
 -- all of them
-pub kept_all : (i most : ℕ) (old now : List LinePair) (js : List ℕ) (n : ℕ) → AreKept i old js n now → length js ≤ n → length now ≤ most → now ≡ take most (old ++ map (numbered i) js)
-kept_all i most old now js n h past few = sym (take_all most now few) ∙ ap (take most) (h ∙ ap (λ (ks : List ℕ). old ++ map (numbered i) ks) (take_all n js past))
+pub kept_all : (i most : ℕ) (old now : List LinePair) (js : List ℕ) (n : ℕ) → AreKept i old js n now → length js ≤ n → length now ≤ most → now ≡ take most (old ++ map (clash_of_lines i) js)
+kept_all i most old now js n h past few = sym (take_all most now few) ∙ ap (take most) (h ∙ ap (λ (ks : List ℕ). old ++ map (clash_of_lines i) ks) (take_all n js past))

@@ -11,23 +11,23 @@ use Rattle.sight_names.specs.Points.{Edge}
 use Rattle.sight_names.specs.Mesh.{HasEdge, IsLineEdge, IsPlainMesh, triangle_at}
 use Rattle.sight_names.specs.Order.{Ascends}
 use Rattle.mesh_shape.specs.Fills.{FillsSides}
-use Rattle.mesh_shape.specs.HalfEdges.Numbers.{edge, number_of}
+use Rattle.mesh_shape.specs.HalfEdges.Numbers.{edge, half_edge_number}
 use Rattle.mesh_shape.proofs.HalfEdges.Numbers.{number_at}
 use Rattle.mesh_shape.proofs.RuleLemmas.{edge_cases}
 use Rattle.face_groups.proofs.TriSectors.FaceRegion.{only_one}
 use Rattle.map_faults.specs.declared.gaps.Gap.{Gap}
 use Rattle.map_faults.specs.EdgeSides.{IsSideOfEdge, AreEdgeSides, side_by}
-use Rattle.map_faults.specs.Gaps.{gap_at, IsGap, IsGapBefore, AreHullGaps, IsFreeOut, IsGapBy, AreJust, AreGapsBy, AddsGaps}
+use Rattle.map_faults.specs.Gaps.{gap_at, IsMeshGap, IsGapBefore, AreHullGaps, IsFreeOut, IsGapBy, AreJustGaps, AreGapsBy, AddsGaps}
 use Rattle.map_faults.proofs.Ordered.{one_behind}
 
 -- ---- one more
 
-added : (Q : Gap → Type 0) (P : Type 0) (g : Gap) (old new : List Gap) → AreJust Q old → (P × (new ≡ old ++ g ∷ [])) ⊎ ((¬ P) × (new ≡ old)) → AreJust (λ x. Q x ⊎ (P × (x ≡ g))) new
-added Q P g old new h (inl a) = subst (AreJust (λ x. Q x ⊎ (P × (x ≡ g)))) (sym a.1) (record {
+added : (Q : Gap → Type 0) (P : Type 0) (g : Gap) (old new : List Gap) → AreJustGaps Q old → (P × (new ≡ old ++ g ∷ [])) ⊎ ((¬ P) × (new ≡ old)) → AreJustGaps (λ x. Q x ⊎ (P × (x ≡ g))) new
+added Q P g old new h (inl a) = subst (AreJustGaps (λ x. Q x ⊎ (P × (x ≡ g)))) (sym a.1) (record {
   each = λ x c. elim (contains_append x old (g ∷ []) c) as (λ _. Q x ⊎ (P × (x ≡ g))) [ inl before ↦ inl (h.each x before) | inr one ↦ inr (a.0, sym (contains_one x g one)) ];
   all = λ x w. elim w as (λ _. Contains (old ++ g ∷ []) x) [ inl q ↦ contains_left x old (g ∷ []) (h.all x q) | inr e ↦ contains_right x old (g ∷ []) (subst (Contains (g ∷ [])) (sym e.1) (contains_here g [])) ];
 })
-added Q P g old new h (inr a) = subst (AreJust (λ x. Q x ⊎ (P × (x ≡ g)))) (sym a.1) (record {
+added Q P g old new h (inr a) = subst (AreJustGaps (λ x. Q x ⊎ (P × (x ≡ g)))) (sym a.1) (record {
   each = λ x c. inl (h.each x c);
   all = λ x w. elim w as (λ _. Contains old x) [ inl q ↦ h.all x q | inr e ↦ absurd (a.0 e.0) ];
 })
@@ -37,7 +37,7 @@ in_order : (R : Gap → Gap → Type 0) (P : Type 0) (g : Gap) (old new : List G
 in_order R P g old new up before (inl a) = subst (Ascends R) (sym a.1) (one_behind R old g up (λ x c. before x c a.0))
 in_order R P g old new up before (inr a) = subst (Ascends R) (sym a.1) up
 
-just_so : (Q R : Gap → Type 0) (gs : List Gap) → ((g : Gap) → Q g → R g) → ((g : Gap) → R g → Q g) → AreJust Q gs → AreJust R gs
+just_so : (Q R : Gap → Type 0) (gs : List Gap) → ((g : Gap) → Q g → R g) → ((g : Gap) → R g → Q g) → AreJustGaps Q gs → AreJustGaps R gs
 just_so Q R gs f b h = record { each = λ g c. f g (h.each g c); all = λ g r. h.all g (b g r) }
 
 -- ---- the edges of a triangle
@@ -75,7 +75,7 @@ module _ (ts : List Triangle) (ss : List (Option Side)) where
   abbrev pub Before : ℕ → Gap → Type 0
   Before n g = IsGapBy ts ss g × (g.triangle < n)
 
-  pub none_before : AreJust (Before 0) []
+  pub none_before : AreJustGaps (Before 0) []
   none_before = record { each = λ g c. absurd (contains_none g c); all = λ g w. absurd (let lt = w.1 in omega arith) }
 
   -- and those of the first edges of the next one
@@ -88,7 +88,7 @@ module _ (ts : List Triangle) (ss : List (Option Side)) where
   abbrev Three : ℕ → Triangle → Gap → Type 0
   Three n t x = Two n t x ⊎ (IsFreeOut ts ss (edge t.r t.p) × (x ≡ gap_at n (edge t.r t.p)))
 
-  pub triangle_added : (n : ℕ) (t : Triangle) (old new : List Gap) → slice_get ts n ≡ Some t → AddsGaps ts ss n t old new → AreJust (Before n) old → AreJust (Before (n + 1)) new
+  pub triangle_added : (n : ℕ) (t : Triangle) (old new : List Gap) → slice_get ts n ≡ Some t → AddsGaps ts ss n t old new → AreJustGaps (Before n) old → AreJustGaps (Before (n + 1)) new
   triangle_added n t old new at adds h = just_so (Three n t) (Before (n + 1)) new forth back
       (added (Two n t) (IsFreeOut ts ss (edge t.r t.p)) (gap_at n (edge t.r t.p)) adds.second new
       (added (One n t) (IsFreeOut ts ss (edge t.q t.r)) (gap_at n (edge t.q t.r)) adds.first adds.second
@@ -116,7 +116,7 @@ module _ (ts : List Triangle) (ss : List (Option Side)) where
             (subst (λ (x : Triangle). HasEdge x (edge g.from g.to)) (same_Some w.0.t t (sym w.0.at ∙ ap (slice_get ts) same ∙ at)) w.0.has) w.0.out)
       ]
 
-  pub triangle_ordered : (n : ℕ) (t : Triangle) (old new : List Gap) → slice_get ts n ≡ Some t → AddsGaps ts ss n t old new → AreJust (Before n) old → Ascends (IsGapBefore ts) old → Ascends (IsGapBefore ts) new
+  pub triangle_ordered : (n : ℕ) (t : Triangle) (old new : List Gap) → slice_get ts n ≡ Some t → AddsGaps ts ss n t old new → AreJustGaps (Before n) old → Ascends (IsGapBefore ts) old → Ascends (IsGapBefore ts) new
   triangle_ordered n t old new at adds h up =
       let one = added (Before n) (IsFreeOut ts ss (edge t.p t.q)) (gap_at n (edge t.p t.q)) old adds.first h adds.pq in
       let two = added (One n t) (IsFreeOut ts ss (edge t.q t.r)) (gap_at n (edge t.q t.r)) adds.first adds.second one adds.qr in
@@ -138,7 +138,7 @@ module _ (ts : List Triangle) (ss : List (Option Side)) where
       behind_second x (inl (inr w)) = subst (λ (g : Gap). R g (gap_at n (edge t.r t.p))) (sym w.1) (inr (refl, t, at, inl (refl, inr refl)))
       behind_second x (inr w) = subst (λ (g : Gap). R g (gap_at n (edge t.r t.p))) (sym w.1) (inr (refl, t, at, inr (refl, refl)))
 
-  pub all_before : (n : ℕ) (gs : List Gap) → length ts ≤ n → AreJust (Before n) gs → AreJust (IsGapBy ts ss) gs
+  pub all_before : (n : ℕ) (gs : List Gap) → length ts ≤ n → AreJustGaps (Before n) gs → AreJustGaps (IsGapBy ts ss) gs
   all_before n gs past h = just_so (Before n) (IsGapBy ts ss) gs (λ g w. w.0) (λ g w. (w, let lt = slice_get_within ts g.triangle w.t w.at in omega arith)) h
 
 -- ---- as the map has it
@@ -154,10 +154,10 @@ hull_gaps m ts ss gs sides plain filled h = record {
     its_triangle : (g : Gap) (t : Triangle) → slice_get ts g.triangle ≡ Some t → HasEdge t (edge g.from g.to) → triangle_at ts (edge g.from g.to) ≡ Some g.triangle
     its_triangle g t at has = only_one m ts plain (edge g.from g.to) g.triangle t at has
 
-    side_there : (e : Edge) (i : ℕ) (o : Option Side) → number_of ts e ≡ Some i → slice_get ss i ≡ Some o → side_by ts ss e ≡ o
+    side_there : (e : Edge) (i : ℕ) (o : Option Side) → half_edge_number ts e ≡ Some i → slice_get ss i ≡ Some o → side_by ts ss e ≡ o
     side_there e i o f q = ap (option_and_then (λ i. option_and_then (λ (o : Option Side). o) (slice_get ss i))) f ∙ ap (option_and_then (λ (o : Option Side). o)) q
 
-    of_map : (g : Gap) → IsGapBy ts ss g → IsGap m ts g
+    of_map : (g : Gap) → IsGapBy ts ss g → IsMeshGap m ts g
     of_map g w =
         let e = edge g.from g.to in
         let f = number_at ts e g.triangle w.t (its_triangle g w.t w.at w.has) w.at in
@@ -168,7 +168,7 @@ hull_gaps m ts ss gs sides plain filled h = record {
     none_or_some e None is free = refl
     none_or_some e (Some s) is free = absurd (free (s.line, is.0, s.left, is.1, sym is.2))
 
-    of_code : (g : Gap) → IsGap m ts g → IsGapBy ts ss g
+    of_code : (g : Gap) → IsMeshGap m ts g → IsGapBy ts ss g
     of_code g w =
         let e = edge g.from g.to in
         let f = number_at ts e g.triangle w.t (its_triangle g w.t w.at w.has) w.at in

@@ -13,11 +13,11 @@ use Rattle.sight_names.specs.Mesh.{AreTriangles, side_edge}
 use Rattle.sight_names.proofs.PlanMap.{line_of_plan}
 use Rattle.sight_names.proofs.PlanNumbers.{line_edge_of_plan}
 use Rattle.mesh_shape.proofs.RuleLemmas.{plan_line_at}
-use Rattle.mesh_shape.specs.HalfEdges.Numbers.{number_of}
+use Rattle.mesh_shape.specs.HalfEdges.Numbers.{half_edge_number}
 use Rattle.mesh_shape.specs.HalfEdges.Kinds.{edge_at}
 use Rattle.mesh_shape.proofs.HalfEdges.EachLine.{IsSideOn, same_or_not}
 use Rattle.mesh_shape.proofs.HalfEdges.Numbers.{one_edge}
-use Rattle.map_faults.specs.EdgeSides.{IsSideOfEdge, AreEdgeSides, PutsSide, PutsRecord}
+use Rattle.map_faults.specs.EdgeSides.{IsSideOfEdge, AreEdgeSides, PutsSide, PutsRecordSides}
 
 -- what is known of an edge when the sides of which D holds were seen
 abbrev IsKnown : (ℕ → Bool → Type 0) → PlanParts → Edge → Option Side → Type 0
@@ -26,7 +26,7 @@ IsKnown D p e (Some s) = (l : Line) × IsSideOn p e s.line s.left l
 
 pub record AreKnown (D : ℕ → Bool → Type 0) (p : PlanParts) (ts : List Triangle) (ss : List (Option Side)) : Type 0 where
   pub len : length ss ≡ length ts * 3
-  pub each : (e : Edge) (i : ℕ) → number_of ts e ≡ Some i → (o : Option Side) × (slice_get ss i ≡ Some o) × IsKnown D p e o
+  pub each : (e : Edge) (i : ℕ) → half_edge_number ts e ≡ Some i → (o : Option Side) × (slice_get ss i ≡ Some o) × IsKnown D p e o
 
 -- the sides of the first n records
 abbrev pub AreKnownBelow : ℕ → PlanParts → List Triangle → List (Option Side) → Type 0
@@ -38,26 +38,26 @@ known_so D E p e (Some s) back h = h
 
 -- one side put
 side_put : (D E : ℕ → Bool → Type 0) (p : PlanParts) (ts : List Triangle) (points n : ℕ) (c : Bool) (x : Line) (old new : List (Option Side)) → ((k : ℕ) (b : Bool) → E k b → D k b ⊎ ((k ≡ n) × (b ≡ c))) → AreTriangles points ts → slice_get p.lines n ≡ Some (Some x)
-    → AreKnown D p ts old → PutsSide (number_of ts (edge_at x c)) (record { line = n; left = c }) old new → AreKnown E p ts new
+    → AreKnown D p ts old → PutsSide (half_edge_number ts (edge_at x c)) (record { line = n; left = c }) old new → AreKnown E p ts new
 side_put D E p ts points n c x old new next all is f g = record { len = g.len ∙ f.len; each = λ e i h. by e i h (f.each e i h) }
   where
     same_line : (e : Edge) (k : ℕ) (left : Bool) (l : Line) → k ≡ n → IsSideOn p e k left l → l ≡ x
     same_line e k left l q on = same_Some l x (same_Some (Some l) (Some x) (sym on.is ∙ ap (slice_get p.lines) q ∙ is))
 
-    by : (e : Edge) (i : ℕ) → number_of ts e ≡ Some i → (o : Option Side) × (slice_get old i ≡ Some o) × IsKnown D p e o → (o : Option Side) × (slice_get new i ≡ Some o) × IsKnown E p e o
-    by e i h (o, at, known) = elim (same_or_not (number_of ts (edge_at x c)) i) as (λ _. (o : Option Side) × (slice_get new i ≡ Some o) × IsKnown E p e o) [
+    by : (e : Edge) (i : ℕ) → half_edge_number ts e ≡ Some i → (o : Option Side) × (slice_get old i ≡ Some o) × IsKnown D p e o → (o : Option Side) × (slice_get new i ≡ Some o) × IsKnown E p e o
+    by e i h (o, at, known) = elim (same_or_not (half_edge_number ts (edge_at x c)) i) as (λ _. (o : Option Side) × (slice_get new i ≡ Some o) × IsKnown E p e o) [
       | inl q ↦ (Some (record { line = n; left = c }), g.here i q ∙ ap (option_map (λ (w : Option Side). let v : Option Side = Some (record { line = n; left = c }) in v)) at, (x, record { is = is; edge = one_edge points ts all (edge_at x c) e i q h }))
       | inr q ↦ (o, g.others i q ∙ at, known_so D E p e o (back q) known)
     ]
       where
-        back : number_of ts (edge_at x c) ≢ Some i → (k : ℕ) (left : Bool) (l : Line) → E k left → IsSideOn p e k left l → D k left
+        back : half_edge_number ts (edge_at x c) ≢ Some i → (k : ℕ) (left : Bool) (l : Line) → E k left → IsSideOn p e k left l → D k left
         back other k left l seen on = elim (next k left seen) as (λ _. D k left) [
           | inl s ↦ s
-          | inr s ↦ absurd (other (ap (number_of ts) (ap (edge_at x) (sym s.1) ∙ ap (λ (y : Line). edge_at y left) (sym (same_line e k left l s.0 on)) ∙ on.edge) ∙ h))
+          | inr s ↦ absurd (other (ap (half_edge_number ts) (ap (edge_at x) (sym s.1) ∙ ap (λ (y : Line). edge_at y left) (sym (same_line e k left l s.0 on)) ∙ on.edge) ∙ h))
         ]
 
 -- one record put
-record_put : (p : PlanParts) (ts : List Triangle) (points n : ℕ) (entry : Option Line) (old new : List (Option Side)) → AreTriangles points ts → slice_get p.lines n ≡ Some entry → AreKnownBelow n p ts old → PutsRecord ts n entry old new → AreKnownBelow (n + 1) p ts new
+record_put : (p : PlanParts) (ts : List Triangle) (points n : ℕ) (entry : Option Line) (old new : List (Option Side)) → AreTriangles points ts → slice_get p.lines n ≡ Some entry → AreKnownBelow n p ts old → PutsRecordSides ts n entry old new → AreKnownBelow (n + 1) p ts new
 record_put p ts points n None old new all is f g = subst (AreKnownBelow (n + 1) p ts) (sym g) (record { len = f.len; each = λ e i h. by e i (f.each e i h) })
   where
     by : (e : Edge) (i : ℕ) → (o : Option Side) × (slice_get old i ≡ Some o) × IsKnown (λ k left. k < n) p e o → (o : Option Side) × (slice_get old i ≡ Some o) × IsKnown (λ k left. k < n + 1) p e o
@@ -79,7 +79,7 @@ record_put p ts points n (Some x) old new all is f g =
         which true s = inl (inr (s, refl))
         which false s = inr (s, refl)
 
-pub known_step : (p : PlanParts) (ts : List Triangle) (points n : ℕ) (lines : List (Option Line)) (d : Option Line) (old middle new : List (Option Side)) → AreTriangles points ts → lines ≡ p.lines → n < length lines → AreKnownBelow n p ts old → middle ≡ old → PutsRecord ts n (get_or lines n d) middle new → AreKnownBelow (n + 1) p ts new
+pub known_step : (p : PlanParts) (ts : List Triangle) (points n : ℕ) (lines : List (Option Line)) (d : Option Line) (old middle new : List (Option Side)) → AreTriangles points ts → lines ≡ p.lines → n < length lines → AreKnownBelow n p ts old → middle ≡ old → PutsRecordSides ts n (get_or lines n d) middle new → AreKnownBelow (n + 1) p ts new
 known_step p ts points n lines d old middle new all e l f same g = record_put p ts points n (get_or lines n d) middle new all (subst (λ (ls : List (Option Line)). slice_get ls n ≡ Some (get_or lines n d)) e (slice_get-get_or lines n d l)) (subst (AreKnownBelow n p ts) (sym same) f) g
 
 pub put_back : (new rest : List (Option Side)) (n : ℕ) → length new ≡ n → take n (new ++ rest) ≡ new

@@ -18,7 +18,7 @@ use Rattle.mesh_shape.specs.HalfEdges.Numbers.{edge}
 use Rattle.mesh_shape.specs.HalfEdges.Kinds.{edge_at, portal_on}
 use Rattle.map_faults.specs.declared.tears.Tear.{Tear}
 use Rattle.map_faults.specs.EdgeSides.{side_by}
-use Rattle.map_faults.specs.Tears.{IsBorder, IsTurn, IsTurnWithin, DoesName, DoDiffer, IsTorn, IsTear, IsTearBefore, AreTearsOf, AreTearsBy, AddsTear, AddsTears}
+use Rattle.map_faults.specs.Tears.{IsBorder, TurnsRound, IsTurnWithin, DoesName, DoDiffer, IsTorn, IsTear, IsTearBefore, AreTearsOf, AreTearsBy, AddsTear, AddsTears}
 use Rattle.map_faults.proofs.Ordered.{one_behind}
 
 -- ---- the turn, edge by edge
@@ -33,7 +33,7 @@ module _ (ts : List Triangle) (ss : List (Option Side)) (point : ℕ) where
   way_on x [] y z e at free = (ap (λ (u : ℕ). apex ts (portal_on (edge u point))) e ∙ at, free, refl)
   way_on x (u ∷ zs) y z h at free = (h.0, h.1, way_on u zs y z h.2 at free)
 
-  way_ends : (x : ℕ) (zs : List ℕ) (y w : ℕ) → IsWay x zs y → apex ts (portal_on (edge y point)) ≡ Some w → IsBorder ts ss (edge point w) → IsTurn ts ss point x zs w
+  way_ends : (x : ℕ) (zs : List ℕ) (y w : ℕ) → IsWay x zs y → apex ts (portal_on (edge y point)) ≡ Some w → IsBorder ts ss (edge point w) → TurnsRound ts ss point x zs w
   way_ends x [] y w e at border = (ap (λ (u : ℕ). apex ts (portal_on (edge u point))) e ∙ at, border)
   way_ends x (u ∷ zs) y w h at border = (h.0, h.1, way_ends u zs y w h.2 at border)
 
@@ -41,14 +41,14 @@ module _ (ts : List Triangle) (ss : List (Option Side)) (point : ℕ) where
   record GoesOn (zs ys : List ℕ) (y w : ℕ) : Type 0 where
     rest : List ℕ
     whole : ys ≡ zs ++ rest
-    turn : IsTurn ts ss point y rest w
+    turn : TurnsRound ts ss point y rest w
 
-  goes_on : (x : ℕ) (zs : List ℕ) (y : ℕ) (ys : List ℕ) (w : ℕ) → IsWay x zs y → IsTurn ts ss point x ys w → GoesOn zs ys y w
-  goes_on x [] y ys w e turn = record { rest = ys; whole = refl; turn = subst (λ (u : ℕ). IsTurn ts ss point u ys w) e turn }
+  goes_on : (x : ℕ) (zs : List ℕ) (y : ℕ) (ys : List ℕ) (w : ℕ) → IsWay x zs y → TurnsRound ts ss point x ys w → GoesOn zs ys y w
+  goes_on x [] y ys w e turn = record { rest = ys; whole = refl; turn = subst (λ (u : ℕ). TurnsRound ts ss point u ys w) e turn }
   goes_on x (z ∷ zs) y [] w h turn = absurd (h.1 (subst (λ (u : ℕ). IsBorder ts ss (edge point u)) (same_Some w z (sym turn.0 ∙ h.0)) turn.1))
   goes_on x (z ∷ zs) y (u ∷ ys) w h turn =
       let e = same_Some u z (sym turn.0 ∙ h.0) in
-      let r = goes_on z zs y ys w h.2 (subst (λ (v : ℕ). IsTurn ts ss point v ys w) e turn.2) in
+      let r = goes_on z zs y ys w h.2 (subst (λ (v : ℕ). TurnsRound ts ss point v ys w) e turn.2) in
       record { rest = r.rest; whole = ap (λ (v : ℕ). v ∷ ys) e ∙ ap (λ (vs : List ℕ). z ∷ vs) r.whole; turn = r.turn }
 
   -- so many steps lead to y
@@ -72,7 +72,7 @@ module _ (ts : List Triangle) (ss : List (Option Side)) (point : ℕ) where
       r : GoesOn h.zs ys y w
       r = goes_on x h.zs y ys w h.way t.0
 
-      go : (rest : List ℕ) → IsTurn ts ss point y rest w → ⊥
+      go : (rest : List ℕ) → TurnsRound ts ss point y rest w → ⊥
       go [] turn = none-some w (sym at ∙ turn.0)
       go (u ∷ rest) turn = none-some u (sym at ∙ turn.0)
 
@@ -88,11 +88,11 @@ module _ (ts : List Triangle) (ss : List (Option Side)) (point : ℕ) where
       both : (us vs : List ℕ) → length (us ++ vs) ≡ length us + length vs
       both us vs = length-append us vs
 
-  one_turn : (x : ℕ) (ys zs : List ℕ) (w v : ℕ) → IsTurn ts ss point x ys w → IsTurn ts ss point x zs v → w ≡ v
+  one_turn : (x : ℕ) (ys zs : List ℕ) (w v : ℕ) → TurnsRound ts ss point x ys w → TurnsRound ts ss point x zs v → w ≡ v
   one_turn x [] [] w v h g = same_Some w v (sym h.0 ∙ g.0)
   one_turn x [] (z ∷ zs) w v h g = absurd (g.1 (subst (λ (u : ℕ). IsBorder ts ss (edge point u)) (same_Some w z (sym h.0 ∙ g.0)) h.1))
   one_turn x (y ∷ ys) [] w v h g = absurd (h.1 (subst (λ (u : ℕ). IsBorder ts ss (edge point u)) (same_Some v y (sym g.0 ∙ h.0)) g.1))
-  one_turn x (y ∷ ys) (z ∷ zs) w v h g = one_turn y ys zs w v h.2 (subst (λ (u : ℕ). IsTurn ts ss point u zs v) (same_Some z y (sym g.0 ∙ h.0)) g.2)
+  one_turn x (y ∷ ys) (z ∷ zs) w v h g = one_turn y ys zs w v h.2 (subst (λ (u : ℕ). TurnsRound ts ss point u zs v) (same_Some z y (sym g.0 ∙ h.0)) g.2)
 
 -- ---- one corner
 

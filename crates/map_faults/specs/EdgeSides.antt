@@ -6,7 +6,7 @@ use Rattle.sight_names.specs.declared.plan.Line.{Line}
 use Rattle.sight_names.specs.Map.{Map, MapLine, line_at}
 use Rattle.sight_names.specs.Points.{Edge}
 use Rattle.sight_names.specs.Mesh.{IsLineEdge, side_edge}
-use Rattle.mesh_shape.specs.HalfEdges.Numbers.{number_of}
+use Rattle.mesh_shape.specs.HalfEdges.Numbers.{half_edge_number}
 use Rattle.mesh_shape.specs.HalfEdges.Kinds.{edge_at}
 
 -- no line is the edge, either way round; or it is the edge at this side
@@ -17,11 +17,11 @@ IsSideOfEdge m e (Some s) = (l : MapLine) × (line_at m s.line ≡ Some l) × (s
 -- for each directed edge of a triangle, by its number
 pub record AreEdgeSides (m : Map) (ts : List Triangle) (ss : List (Option Side)) : Type 0 where
   pub len : length ss ≡ length ts * 3
-  pub each : (e : Edge) (i : ℕ) → number_of ts e ≡ Some i → (o : Option Side) × (slice_get ss i ≡ Some o) × IsSideOfEdge m e o
+  pub each : (e : Edge) (i : ℕ) → half_edge_number ts e ≡ Some i → (o : Option Side) × (slice_get ss i ≡ Some o) × IsSideOfEdge m e o
 
 -- the side at the edge's number
 abbrev pub side_by : List Triangle → List (Option Side) → Edge → Option Side
-side_by ts ss e = option_and_then (λ i. option_and_then (λ (o : Option Side). o) (slice_get ss i)) (number_of ts e)
+side_by ts ss e = option_and_then (λ i. option_and_then (λ (o : Option Side). o) (slice_get ss i)) (half_edge_number ts e)
 
 -- ---- line after line
 
@@ -31,11 +31,11 @@ pub record PutsSide (number : Option ℕ) (side : Side) (old new : List (Option 
   pub here : (i : ℕ) → number ≡ Some i → slice_get new i ≡ option_map (λ (o : Option Side). Some side) (slice_get old i)
   pub others : (i : ℕ) → number ≢ Some i → slice_get new i ≡ slice_get old i
 
-pub record PutsLine (ts : List Triangle) (k : ℕ) (l : Line) (old new : List (Option Side)) : Type 0 where
+pub record PutsLineSides (ts : List Triangle) (k : ℕ) (l : Line) (old new : List (Option Side)) : Type 0 where
   pub middle : List (Option Side)
-  pub left : PutsSide (number_of ts (edge_at l true)) (record { line = k; left = true }) old middle
-  pub right : PutsSide (number_of ts (edge_at l false)) (record { line = k; left = false }) middle new
+  pub left : PutsSide (half_edge_number ts (edge_at l true)) (record { line = k; left = true }) old middle
+  pub right : PutsSide (half_edge_number ts (edge_at l false)) (record { line = k; left = false }) middle new
 
-abbrev pub PutsRecord : List Triangle → ℕ → Option Line → List (Option Side) → List (Option Side) → Type 0
-PutsRecord ts k None old new = new ≡ old
-PutsRecord ts k (Some l) old new = PutsLine ts k l old new
+abbrev pub PutsRecordSides : List Triangle → ℕ → Option Line → List (Option Side) → List (Option Side) → Type 0
+PutsRecordSides ts k None old new = new ≡ old
+PutsRecordSides ts k (Some l) old new = PutsLineSides ts k l old new

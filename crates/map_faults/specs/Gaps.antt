@@ -15,7 +15,7 @@ abbrev pub gap_at : ℕ → Edge → Gap
 gap_at k e = record { triangle = k; from = e.from; to = e.to }
 
 -- an edge of the triangle that is no line and has no triangle behind it
-pub record IsGap (m : Map) (ts : List Triangle) (g : Gap) : Type 0 where
+pub record IsMeshGap (m : Map) (ts : List Triangle) (g : Gap) : Type 0 where
   pub t : Triangle
   pub at : slice_get ts g.triangle ≡ Some t
   pub has : HasEdge t (edge g.from g.to)
@@ -32,10 +32,10 @@ IsGapBefore ts g h = (g.triangle < h.triangle) ⊎ ((g.triangle ≡ h.triangle) 
 
 -- just the gaps, in the order of the triangles and their edges, and no point of the map lies beyond one
 pub record AreHullGaps (m : Map) (ts : List Triangle) (gs : List Gap) : Type 0 where
-  pub each : (g : Gap) → Contains gs g → IsGap m ts g
+  pub each : (g : Gap) → Contains gs g → IsMeshGap m ts g
   pub ascend : Ascends (IsGapBefore ts) gs
   pub hull : (g : Gap) → Contains gs g → ¬ HasLeft m (edge g.to g.from)
-  pub all : (g : Gap) → IsGap m ts g → Contains gs g
+  pub all : (g : Gap) → IsMeshGap m ts g → Contains gs g
 
 -- ---- triangle after triangle
 
@@ -50,12 +50,12 @@ pub record IsGapBy (ts : List Triangle) (ss : List (Option Side)) (g : Gap) : Ty
   pub out : IsFreeOut ts ss (edge g.from g.to)
 
 -- just those of which Q holds
-pub record AreJust (Q : Gap → Type 0) (gs : List Gap) : Type 0 where
+pub record AreJustGaps (Q : Gap → Type 0) (gs : List Gap) : Type 0 where
   pub each : (g : Gap) → Contains gs g → Q g
   pub all : (g : Gap) → Q g → Contains gs g
 
 abbrev pub AreGapsBy : List Triangle → List (Option Side) → List Gap → Type 0
-AreGapsBy ts ss gs = AreJust (IsGapBy ts ss) gs × Ascends (IsGapBefore ts) gs
+AreGapsBy ts ss gs = AreJustGaps (IsGapBy ts ss) gs × Ascends (IsGapBefore ts) gs
 
 -- the edge is added behind the others, if it is a gap
 abbrev pub AddsGap : List Triangle → List (Option Side) → ℕ → Edge → List Gap → List Gap → Type 0

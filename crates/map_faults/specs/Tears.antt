@@ -21,13 +21,13 @@ IsBorder ts ss e = ((s : Side) × (side_by ts ss e ≡ Some s)) ⊎ (triangle_at
 
 -- one who turns round the point, in the triangle at the edge that comes from x, crosses the edges to these points, which are
 -- no borders, and comes to the border that goes on to w
-abbrev pub IsTurn : List Triangle → List (Option Side) → ℕ → ℕ → List ℕ → ℕ → Type 0
-IsTurn ts ss point x [] w = (apex ts (portal_on (edge x point)) ≡ Some w) × IsBorder ts ss (edge point w)
-IsTurn ts ss point x (y ∷ ys) w = (apex ts (portal_on (edge x point)) ≡ Some y) × (¬ IsBorder ts ss (edge point y)) × IsTurn ts ss point y ys w
+abbrev pub TurnsRound : List Triangle → List (Option Side) → ℕ → ℕ → List ℕ → ℕ → Type 0
+TurnsRound ts ss point x [] w = (apex ts (portal_on (edge x point)) ≡ Some w) × IsBorder ts ss (edge point w)
+TurnsRound ts ss point x (y ∷ ys) w = (apex ts (portal_on (edge x point)) ≡ Some y) × (¬ IsBorder ts ss (edge point y)) × TurnsRound ts ss point y ys w
 
 -- and crosses fewer of them than there are triangles
 abbrev pub IsTurnWithin : List Triangle → List (Option Side) → ℕ → ℕ → List ℕ → ℕ → Type 0
-IsTurnWithin ts ss point x ys w = IsTurn ts ss point x ys w × (length ys < length ts)
+IsTurnWithin ts ss point x ys w = TurnsRound ts ss point x ys w × (length ys < length ts)
 
 -- the side names a sector
 abbrev pub DoesName : Map → Option Side → Type 0

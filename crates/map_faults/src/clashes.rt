@@ -7,8 +7,8 @@ ghost use Rattle.sight_names.specs.Plan.{IsPlanLine};
 ghost use Rattle.sight_names.specs.Sound.{LinesMeetAtEnds};
 ghost use Rattle.map_faults.specs.declared.clashes.LinePair.{LinePair};
 ghost use Rattle.geom_exact.specs.LineSpans.Spans.{AreSkips, AreSpans, IsSpanIn, span_of as span_in};
-ghost use Rattle.map_audit.specs.Audit.{AreRelated, FineAt, IsFaultOf, IsLineFault, fault_by};
-ghost use Rattle.map_faults.specs.Clashes.{AddsIfClash, AreFirstClashes, AreLaterClashes, AreInOrder, AreClashesOf, numbered};
+ghost use Rattle.map_audit.specs.Audit.{AreRelated, FineAt, IsLineFaultOf, IsLineFault, fault_by};
+ghost use Rattle.map_faults.specs.Clashes.{AddsIfClash, AreFirstClashes, AreLaterClashes, AreNumbersInOrder, AreClashesOf, clash_of_lines};
 
 use geom_exact::line_spans::{NO_SPAN, Span, ends_below, first_behind, put_skips, put_spans};
 use geom_exact::{Relation, seg_relation};
@@ -36,7 +36,7 @@ pub struct Clashes {
 /// spans of the lines, and for the pairs of one line.
 pub fn clashes_of(alloc: Global, plan: &Plan) -> Result<Clashes, Memory>
     ensures clashes { IfOk result (λ c. AreFirstClashes (map_of plan.now) c.first c.count) }
-    ensures first { IfOk result (λ c. (p : LinePair) (f : LineFault) → slice_get c.first 0 ≡ Some p → IsFaultOf (map_of plan.now) p.i p.j f → IsLineFault (map_of plan.now) f) }
+    ensures first { IfOk result (λ c. (p : LinePair) (f : LineFault) → slice_get c.first 0 ≡ Some p → IsLineFaultOf (map_of plan.now) p.i p.j f → IsLineFault (map_of plan.now) f) }
     ensures none { IfOk result (λ c. (c.count ≡ 0) ↔ LinesMeetAtEnds (map_of plan.now)) }
 {
     let mut spans = vec![in alloc; NO_SPAN; plan.lines().len()]?;
@@ -70,7 +70,7 @@ fn clashes_by(alloc: Global, plan: &Plan, spans: &[Span], skips: &[u16]) -> Resu
 /// Puts the pairs of record `i` with these behind the others, as long as there are few.
 fn keep_first(pairs: &mut Vec<LinePair>, i: u16, others: &[u16]) -> Result<(), Memory>
     requires { length pairs.old.items ≤ MOST_CLASHES }
-    ensures { OnOk result (pairs.new.items ≡ take MOST_CLASHES (pairs.old.items ++ map (numbered i) others.now)) }
+    ensures { OnOk result (pairs.new.items ≡ take MOST_CLASHES (pairs.old.items ++ map (clash_of_lines i) others.now)) }
 {
     for j in others {
         if pairs.len() == MOST_CLASHES {
@@ -194,7 +194,7 @@ fn add_if_clash(plan: &Plan, one: Span, other: Span, found: &mut Vec<u16>) -> Re
 
 /// The fault of records `i` and `j`: None where one is no line, or their lines are apart or have an end in common.
 pub fn fault_of(plan: &Plan, i: u16, j: u16) -> Option<LineFault>
-    ensures { MatchOption result (FineAt (map_of plan.now) i j) (λ f. IsFaultOf (map_of plan.now) i j f) }
+    ensures { MatchOption result (FineAt (map_of plan.now) i j) (λ f. IsLineFaultOf (map_of plan.now) i j f) }
 {
     let one = plan.line(i)?;
     let other = plan.line(j)?;
@@ -230,7 +230,7 @@ fn fault_named(i: u16, j: u16, relation: Relation) -> Option<LineFault>
 
 /// The numbers in order, each once.
 pub fn in_order(all: Vec<u16>) -> Vec<u16>
-    ensures order { AreInOrder all.items result.items }
+    ensures order { AreNumbersInOrder all.items result.items }
     ensures few { length result.items ≤ length all.items }
 {
     let mut numbers = all;

@@ -2,8 +2,8 @@
 
 ghost use Rattle.std.specs.Prelude.{◌≡◌, IfOk};
 ghost use Rattle.sight_names.specs.Map.{map_of};
-ghost use Rattle.mesh_shape.specs.HalfEdges.Numbers.{edge, corner_of as corner_from, number_of as number_at};
-ghost use Rattle.map_faults.specs.EdgeSides.{AreEdgeSides, PutsLine, PutsRecord, PutsSide, side_by};
+ghost use Rattle.mesh_shape.specs.HalfEdges.Numbers.{edge, corner_of as corner_from, half_edge_number as number_at};
+ghost use Rattle.map_faults.specs.EdgeSides.{AreEdgeSides, PutsLineSides, PutsRecordSides, PutsSide, side_by};
 
 use mesh_shape::Mesh;
 use sight_names::{Line, Memory, Plan, Side, Triangle};
@@ -45,7 +45,7 @@ fn put_side(sides: &mut [Option<Side>], number: Option<u32>, side: Side)
 
 /// The same for both sides of the line with this record number.
 fn put_line(mesh: &Mesh, sides: &mut [Option<Side>], number: u16, line: Line)
-    ensures { PutsLine mesh.now.triangles number line sides.old sides.new }
+    ensures { PutsLineSides mesh.now.triangles number line sides.old sides.new }
 {
     let left = Side {
         line: number,
@@ -61,7 +61,7 @@ fn put_line(mesh: &Mesh, sides: &mut [Option<Side>], number: u16, line: Line)
 
 /// The same where the record has a line.
 fn put_record(mesh: &Mesh, sides: &mut [Option<Side>], number: u16, entry: Option<Line>)
-    ensures { PutsRecord mesh.now.triangles number entry sides.old sides.new }
+    ensures { PutsRecordSides mesh.now.triangles number entry sides.old sides.new }
 {
     if let Some(line) = entry {
         put_line(mesh, sides, number, line);

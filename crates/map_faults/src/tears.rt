@@ -7,7 +7,7 @@ ghost use Rattle.sight_names.specs.Mesh.{triangle_at};
 ghost use Rattle.mesh_shape.specs.HalfEdges.Numbers.{edge};
 ghost use Rattle.mesh_shape.specs.HalfEdges.Kinds.{edge_at};
 ghost use Rattle.map_faults.specs.EdgeSides.{AreEdgeSides, side_by};
-ghost use Rattle.map_faults.specs.Tears.{AddsTear, AddsTears, AreTears, AreTearsBy, DoesName, IsBorder, IsTurn, IsTurnWithin};
+ghost use Rattle.map_faults.specs.Tears.{AddsTear, AddsTears, AreTears, AreTearsBy, DoesName, IsBorder, TurnsRound, IsTurnWithin};
 
 use crate::edge_sides::{edge_sides_of, side_on};
 use mesh_shape::Mesh;

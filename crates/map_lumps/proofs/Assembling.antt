@@ -10,7 +10,7 @@ use Rattle.sight_names.proofs.Lists.{contains_tail, contains_cases}
 use Rattle.sight_names.proofs.PlanPoints.{before_irreflexive, the_ends, IsEnd, at, ends_from, get_in}
 use Rattle.sight_names.proofs.PlanMap.{get_at}
 use Rattle.map_lumps.specs.declared.records.PlacedLine.{PlacedLine}
-use Rattle.map_lumps.specs.Records.{placed_ends, EndsBelow, IsInOrder}
+use Rattle.map_lumps.specs.Records.{placed_ends, EndsBelow, ArePointsInOrder}
 use Rattle.math_base.proofs.Numbers.{same_below_or_above}
 use Rattle.math_base.proofs.Lists.{map_pushed, contains_none, contains_here}
 
@@ -57,7 +57,7 @@ line_at_plan points (o ∷ ls) zero l e = let q : o ≡ Some l = cc in ap (λ (x
 line_at_plan points (o ∷ ls) (suc i) l e = line_at_plan points ls i l e
 
 -- points in order at two places that are one point are at one place
-same_place : (points : List Pt) → IsInOrder points → (i j : ℕ) → i < length points → j < length points → slice_index_or points i origin ≡ slice_index_or points j origin → i ≡ j
+same_place : (points : List Pt) → ArePointsInOrder points → (i j : ℕ) → i < length points → j < length points → slice_index_or points i origin ≡ slice_index_or points j origin → i ≡ j
 same_place points h i j hi hj e = elim (same_below_or_above i j) [
   | inl same ↦ same
   | inr differ ↦ elim differ [
@@ -67,7 +67,7 @@ same_place points h i j hi hj e = elim (same_below_or_above i j) [
 ]
 
 -- the parts of a map's plan, its points in order, keep the invariant
-pub is_plan : (p : PlanParts) → IsMap (map_of p) → length p.points ≤ LARGE_POINTS → length p.lines ≤ LARGE_LINES → IsInOrder p.points → ((e : Pt) → Contains p.points e → Contains (the_ends p.points p.lines) e) → EndsBelow (length p.points) p.lines → IsPlan p
+pub is_plan : (p : PlanParts) → IsMap (map_of p) → length p.points ≤ LARGE_POINTS → length p.lines ≤ LARGE_LINES → ArePointsInOrder p.points → ((e : Pt) → Contains p.points e → Contains (the_ends p.points p.lines) e) → EndsBelow (length p.points) p.lines → IsPlan p
 is_plan p m few_points few_lines order among below = record {
   few_points = few_points;
   few_lines = few_lines;

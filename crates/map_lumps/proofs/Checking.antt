@@ -7,8 +7,8 @@ use Rattle.sight_names.specs.declared.faults.Lump.TheVariants.{Linedefs, Sidedef
 use Rattle.sight_names.specs.Points.{points_of}
 use Rattle.sight_names.specs.declared.names.Reading.{Reading}
 use Rattle.sight_names.specs.Limits.{most_lines, most_points, most_sectors}
-use Rattle.sight_names.specs.Lumps.{linedef_len, vertex_len, count_linedefs, numbers_below, lines_fault, line_fault, lump_fault, fault_if, map_of_lumps}
-use Rattle.map_lumps.specs.Answers.{cut_lump, Passes}
+use Rattle.sight_names.specs.Lumps.{linedef_len, vertex_len, count_linedefs, numbers_below, lines_fault, line_fault, lump_fault, lump_fault_if, map_of_lumps}
+use Rattle.map_lumps.specs.Answers.{cut_lump, PassesChecks}
 use Rattle.map_lumps.proofs.Reading.{stands, none_found}
 
 uncut : (a b c d : Bool) (p q r s : Lump) → cond a (Some p) (cond b (Some q) (cond c (Some r) (cond d (Some s) None))) ≡ None → (a ≡ false) × (b ≡ false) × (c ≡ false) × (d ≡ false)
@@ -31,7 +31,7 @@ uncut false false false true p q r s e = absurd (no e)
     no e = cc
 
 after_six : (a b c d e f : Bool) (p q r s t u : LumpFault) (rest : Option LumpFault) → a ≡ false → b ≡ false → c ≡ false → d ≡ false → e ≡ false → f ≡ false →
-    fault_if a p (fault_if b q (fault_if c r (fault_if d s (fault_if e t (fault_if f u rest))))) ≡ rest
+    lump_fault_if a p (lump_fault_if b q (lump_fault_if c r (lump_fault_if d s (lump_fault_if e t (lump_fault_if f u rest))))) ≡ rest
 after_six a b c d e f p q r s t u rest h1 h2 h3 h4 h5 h6 = rw (h1, h2, h3, h4, h5, h6) refl
 
 not_above : (m n : ℕ) → n ≤ m → nat_lt m n ≡ false
@@ -39,7 +39,7 @@ not_above m n h = grind arith
 
 module _ (reading : Reading) (linedefs sidedefs vertexes sectors : List ℕ) where
   abbrev points_fault : Option LumpFault
-  points_fault = fault_if (nat_lt (most_points reading.large) (length (points_of (map_of_lumps reading.format linedefs sidedefs vertexes sectors)))) (TooManyPoints (length (points_of (map_of_lumps reading.format linedefs sidedefs vertexes sectors)))) None
+  points_fault = lump_fault_if (nat_lt (most_points reading.large) (length (points_of (map_of_lumps reading.format linedefs sidedefs vertexes sectors)))) (TooManyPoints (length (points_of (map_of_lumps reading.format linedefs sidedefs vertexes sectors)))) None
 
   -- where the sizes and the counts pass, the lines are what is left, and then the points
   pub lines_left : cut_lump reading.format linedefs sidedefs vertexes sectors ≡ None → length sectors / 26 ≤ most_sectors reading.large → count_linedefs reading.format linedefs ≤ most_lines reading.large →
@@ -54,12 +54,12 @@ module _ (reading : Reading) (linedefs sidedefs vertexes sectors : List ℕ) whe
   line_fault_first None cut few_sectors few_lines e = tt
   line_fault_first (Some f) cut few_sectors few_lines e = lines_left cut few_sectors few_lines ∙ stands _ (numbers_below (count_linedefs reading.format linedefs)) points_fault f (sym e)
 
-  uncut_of : Passes reading linedefs sidedefs vertexes sectors → cut_lump reading.format linedefs sidedefs vertexes sectors ≡ None
+  uncut_of : PassesChecks reading linedefs sidedefs vertexes sectors → cut_lump reading.format linedefs sidedefs vertexes sectors ≡ None
   uncut_of h = whole _ _ _ _ Linedefs Sidedefs Vertexes Sectors h.whole_linedefs h.whole_sidedefs h.whole_vertexes h.whole_sectors
     where
       whole : (a b c d : ℕ) (p q r s : Lump) → a ≡ 0 → b ≡ 0 → c ≡ 0 → d ≡ 0 → cond (not (a == 0)) (Some p) (cond (not (b == 0)) (Some q) (cond (not (c == 0)) (Some r) (cond (not (d == 0)) (Some s) None))) ≡ None
       whole a b c d p q r s h1 h2 h3 h4 = rw (h1, h2, h3, h4) refl
 
   -- where the early checks pass, the points decide
-  pub points_left : Passes reading linedefs sidedefs vertexes sectors → lump_fault reading linedefs sidedefs vertexes sectors ≡ points_fault
+  pub points_left : PassesChecks reading linedefs sidedefs vertexes sectors → lump_fault reading linedefs sidedefs vertexes sectors ≡ points_fault
   points_left h = lines_left (uncut_of h) h.few_sectors h.few_lines ∙ none_found (line_fault reading.format linedefs sidedefs vertexes sectors) (count_linedefs reading.format linedefs) points_fault h.each

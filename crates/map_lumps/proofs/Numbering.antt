@@ -16,7 +16,7 @@ use Rattle.sight_names.specs.Points.{in_order, pt_eq}
 use Rattle.sight_names.proofs.Lists.{same_ascending, get_of_contains, contains_cases}
 use Rattle.sight_names.proofs.PlanPoints.{before_irreflexive, before_asymmetric, IsAscending, as_indices, in_order_ascends, in_order_from, in_order_has}
 use Rattle.sight_names.proofs.Records.{same_pt}
-use Rattle.map_lumps.specs.Records.{IsInOrder}
+use Rattle.map_lumps.specs.Records.{ArePointsInOrder}
 use Rattle.math_base.proofs.Numbers.{below_or_not}
 use Rattle.math_base.proofs.Lists.{contains_none}
 
@@ -72,7 +72,7 @@ sorted_is xs ys zs moved sorted kept =
     (λ e c. in_order_has xs e (Contains-permutation ys xs e (IsPermutation-sym xs ys moved) (Contains-from_dedup pt_eq ys e c)))
     (λ e c. Contains-dedup pt_eq_equiv (λ p q h. pt_same p q (same_lex p.x q.x p.y q.y h)) ys e (Contains-permutation xs ys e moved (in_order_from xs e c)))
 
-pub in_order_is : (ps : List Pt) → IsInOrder (in_order ps)
+pub in_order_is : (ps : List Pt) → ArePointsInOrder (in_order ps)
 in_order_is ps = record { ascend = as_indices (in_order ps) (in_order_ascends ps) }
 
 -- ---- what a search finds
@@ -87,12 +87,12 @@ not_less Less h = absurd (h refl)
 not_less Equal h = refl
 not_less Greater h = refl
 
-sorted_of_order : (points : List Pt) → IsInOrder points → IsSorted pt_cmp points
+sorted_of_order : (points : List Pt) → ArePointsInOrder points → IsSorted pt_cmp points
 sorted_of_order points h k d low high =
     not_less _ (λ less. before_asymmetric (slice_index_or points (k + 1) d) (slice_index_or points k d) (less_is_before (slice_index_or points (k + 1) d) (slice_index_or points k d) less) (h.ascend k (k + 1) _ _ (omega arith) (get_at points k d (omega arith)) (get_at points (k + 1) d high)))
 
 -- a point that is there is found
-pub search_finds : (points : List Pt) (p : Pt) (i : ℕ) → IsInOrder points → Contains points p → IsBinarySearchResult (λ y. pt_cmp y p) points (Err i) → ⊥
+pub search_finds : (points : List Pt) (p : Pt) (i : ℕ) → ArePointsInOrder points → Contains points p → IsBinarySearchResult (λ y. pt_cmp y p) points (Err i) → ⊥
 search_finds points p i order there h =
     let parts = h (searchable_from_sorted pt_cmp_total (λ (y : Pt). y) points p (sorted_of_order points order)) in
     let self : pt_cmp (slice_index_or points there.0 p) p ≡ Equal = subst (λ (y : Pt). pt_cmp y p ≡ Equal) (sym there.2) (tied_itself pt_cmp_total p) in

@@ -3,7 +3,7 @@ use Rattle.std.proofs.Common.{◌≡◌, ℕ, zero, suc, ◌+◌, ◌*◌, ◌<�
 use Rattle.std.specs.Int.{bit_at}
 use Rattle.std.proofs.lemmas.Nat.Bits.{and_pow, bit_at-lt}
 use Rattle.sight_names.specs.declared.faults.LumpFault.{LumpFault}
-use Rattle.sight_names.specs.Lumps.{numbers_from, numbers_below, lines_fault, first_of}
+use Rattle.sight_names.specs.Lumps.{numbers_from, numbers_below, lines_fault, first_lump_fault}
 use Rattle.math_base.proofs.Lists.{map_pushed}
 
 -- one number more
@@ -21,10 +21,10 @@ mapped_more f g xs x n h e = map_pushed f xs x ∙ ap₂ (λ ys y. ys ++ y ∷ [
 -- the first line with a fault, none before it having one
 first_from : (fault : ℕ → Option LumpFault) (k n m : ℕ) (rest : Option LumpFault) (f : LumpFault) → m < n → ((j : ℕ) → j < m → fault (k + j) ≡ None) → fault (k + m) ≡ Some f → lines_fault fault (numbers_from k n) rest ≡ Some f
 first_from fault k zero m rest f h none e = absurd (omega arith)
-first_from fault k (suc n) zero rest f h none e = let q : fault k ≡ Some f = subst (λ (j : ℕ). fault j ≡ Some f) (omega arith) e in ap (λ o. first_of o (lines_fault fault (numbers_from (k + 1) n) rest)) q
+first_from fault k (suc n) zero rest f h none e = let q : fault k ≡ Some f = subst (λ (j : ℕ). fault j ≡ Some f) (omega arith) e in ap (λ o. first_lump_fault o (lines_fault fault (numbers_from (k + 1) n) rest)) q
 first_from fault k (suc n) (suc m) rest f h none e =
     let q : fault k ≡ None = subst (λ (j : ℕ). fault j ≡ None) (omega arith) (none 0 (omega arith)) in
-    ap (λ o. first_of o (lines_fault fault (numbers_from (k + 1) n) rest)) q ∙ first_from fault (k + 1) n m rest f (omega arith) (λ j l. subst (λ (i : ℕ). fault i ≡ None) (omega arith) (none (suc j) (omega arith))) (subst (λ (i : ℕ). fault i ≡ Some f) (omega arith) e)
+    ap (λ o. first_lump_fault o (lines_fault fault (numbers_from (k + 1) n) rest)) q ∙ first_from fault (k + 1) n m rest f (omega arith) (λ j l. subst (λ (i : ℕ). fault i ≡ None) (omega arith) (none (suc j) (omega arith))) (subst (λ (i : ℕ). fault i ≡ Some f) (omega arith) e)
 
 pub first_found : (fault : ℕ → Option LumpFault) (n m : ℕ) (rest : Option LumpFault) (f : LumpFault) → m < n → ((j : ℕ) → j < m → fault j ≡ None) → fault m ≡ Some f → lines_fault fault (numbers_below n) rest ≡ Some f
 first_found fault n m rest f h none e = first_from fault 0 n m rest f h (λ j l. subst (λ (i : ℕ). fault i ≡ None) (omega arith) (none j l)) (subst (λ (i : ℕ). fault i ≡ Some f) (omega arith) e)
@@ -52,7 +52,7 @@ stands fault [] rest f e = absurd (no e)
     no e = cc
 stands fault (k ∷ ks) rest f e = go (stands fault ks rest f) (fault k) e
   where
-    go : (lines_fault fault ks None ≡ Some f → lines_fault fault ks rest ≡ Some f) → (o : Option LumpFault) → first_of o (lines_fault fault ks None) ≡ Some f → first_of o (lines_fault fault ks rest) ≡ Some f
+    go : (lines_fault fault ks None ≡ Some f → lines_fault fault ks rest ≡ Some f) → (o : Option LumpFault) → first_lump_fault o (lines_fault fault ks None) ≡ Some f → first_lump_fault o (lines_fault fault ks rest) ≡ Some f
     go rec None e = rec e
     go rec (Some g) e = e
 
@@ -60,7 +60,7 @@ none_from : (fault : ℕ → Option LumpFault) (k n : ℕ) (rest : Option LumpFa
 none_from fault k zero rest none = refl
 none_from fault k (suc n) rest none =
     let q : fault k ≡ None = subst (λ (j : ℕ). fault j ≡ None) (omega arith) (none 0 (omega arith)) in
-    ap (λ o. first_of o (lines_fault fault (numbers_from (k + 1) n) rest)) q ∙ none_from fault (k + 1) n rest (λ j l. subst (λ (i : ℕ). fault i ≡ None) (omega arith) (none (suc j) (omega arith)))
+    ap (λ o. first_lump_fault o (lines_fault fault (numbers_from (k + 1) n) rest)) q ∙ none_from fault (k + 1) n rest (λ j l. subst (λ (i : ℕ). fault i ≡ None) (omega arith) (none (suc j) (omega arith)))
 
 pub none_found : (fault : ℕ → Option LumpFault) (n : ℕ) (rest : Option LumpFault) → ((j : ℕ) → j < n → fault j ≡ None) → lines_fault fault (numbers_below n) rest ≡ rest
 none_found fault n rest none = none_from fault 0 n rest (λ j l. subst (λ (i : ℕ). fault i ≡ None) (omega arith) (none j l))

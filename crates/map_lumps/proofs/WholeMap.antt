@@ -8,15 +8,15 @@ use Rattle.sight_names.specs.declared.faults.LumpFault.{LumpFault}
 use Rattle.sight_names.specs.declared.faults.LumpFault.TheVariants.{BadVertex, BadSide, BadSector, TooManyPoints}
 use Rattle.sight_names.specs.Plan.{PlanParts, IsPlan}
 use Rattle.sight_names.specs.Map.{MapLine, map_of, looked_up, IsMap, IsMapLine}
-use Rattle.sight_names.specs.Points.{points_of, in_order, ends_of, pt_eq}
+use Rattle.sight_names.specs.Points.{points_of, in_order, ends_of_lines, pt_eq}
 use Rattle.sight_names.specs.declared.limits.TheConstants.{LARGE_LINES, LARGE_POINTS}
 use Rattle.sight_names.specs.declared.names.Reading.{Reading}
 use Rattle.sight_names.specs.Limits.{most_lines, most_points}
-use Rattle.sight_names.specs.Lumps.{linedef_len, right_at, left_at, count_linedefs, numbers_from, numbers_below, linedef, line_fault, lump_fault, fault_if, map_of_lumps, vertex, side_sector, u16_at, is_bad_sector}
+use Rattle.sight_names.specs.Lumps.{linedef_len, right_at, left_at, count_linedefs, numbers_from, numbers_below, linedef, line_fault, lump_fault, lump_fault_if, map_of_lumps, vertex, side_sector, u16_at, is_bad_sector}
 use Rattle.sight_names.proofs.PlanPoints.{in_order_from, in_order_has}
 use Rattle.map_lumps.specs.declared.records.PlacedLine.{PlacedLine}
-use Rattle.map_lumps.specs.Records.{as_map_line, placed_ends, EndsAmong, EndsBelow, IsInOrder}
-use Rattle.map_lumps.specs.Answers.{Passes}
+use Rattle.map_lumps.specs.Records.{as_map_line, placed_ends, EndsAmong, EndsBelow, ArePointsInOrder}
+use Rattle.map_lumps.specs.Answers.{PassesChecks}
 use Rattle.map_lumps.proofs.Checking.{points_left}
 use Rattle.map_lumps.proofs.Numbering.{pt_eq_equiv, in_order_is}
 use Rattle.map_lumps.proofs.Assembling.{is_plan}
@@ -35,7 +35,7 @@ within_lines false n h = omega (arith, h)
 
 -- ---- a sound record
 
-four_pass : (a b c d : Bool) (p q r s : LumpFault) → fault_if a p (fault_if b q (fault_if c r (fault_if d s None))) ≡ None → (a ≡ false) × (b ≡ false) × (c ≡ false) × (d ≡ false)
+four_pass : (a b c d : Bool) (p q r s : LumpFault) → lump_fault_if a p (lump_fault_if b q (lump_fault_if c r (lump_fault_if d s None))) ≡ None → (a ≡ false) × (b ≡ false) × (c ≡ false) × (d ≡ false)
 four_pass false false false false p q r s e = (refl, refl, refl, refl)
 four_pass true b c d p q r s e = absurd (no e)
   where
@@ -113,7 +113,7 @@ module _ (reading : Reading) (linedefs sidedefs vertexes sectors : List ℕ) whe
   got f k (suc n) (suc i) l e = let h = got f (k + 1) n i l e in (omega arith, subst (λ (j : ℕ). f j ≡ Some l) (omega arith) h.1)
 
   -- the lumps spell a map where each record is sound
-  pub lumps_are_map : Passes reading linedefs sidedefs vertexes sectors → IsMap (map_of_lumps reading.format linedefs sidedefs vertexes sectors)
+  pub lumps_are_map : PassesChecks reading linedefs sidedefs vertexes sectors → IsMap (map_of_lumps reading.format linedefs sidedefs vertexes sectors)
   unfolding map_of_lumps
   lumps_are_map h i l e = let g = got (linedef reading.format linedefs sidedefs vertexes) 0 (count_linedefs reading.format linedefs) i l e in
       sound_line i l (h.each i g.0) (subst (λ (j : ℕ). linedef reading.format linedefs sidedefs vertexes j ≡ Some l) (zero-add i) g.1)
@@ -121,16 +121,16 @@ module _ (reading : Reading) (linedefs sidedefs vertexes sectors : List ℕ) whe
   module _ (placed : List (Option PlacedLine)) (points : List Pt) (same : map (option_map as_map_line) placed ≡ map (linedef reading.format linedefs sidedefs vertexes) (numbers_below (count_linedefs reading.format linedefs))) (are : points ≡ in_order (placed_ends placed)) where
     pub points_are : points_of (map_of_lumps reading.format linedefs sidedefs vertexes sectors) ≡ points
     unfolding map_of_lumps points_of
-    points_are = ap (λ (ls : List (Option MapLine)). in_order (ends_of (filter_map (λ l. l) ls))) (sym same) ∙ sym are
+    points_are = ap (λ (ls : List (Option MapLine)). in_order (ends_of_lines (filter_map (λ l. l) ls))) (sym same) ∙ sym are
 
     pub ends_among : EndsAmong points placed
     ends_among p there = subst (λ (ps : List Pt). Contains ps p) (sym are) (in_order_has (placed_ends placed) p there)
 
-    pub points_in_order : IsInOrder points
-    points_in_order = subst IsInOrder (sym are) (in_order_is (placed_ends placed))
+    pub points_in_order : ArePointsInOrder points
+    points_in_order = subst ArePointsInOrder (sym are) (in_order_is (placed_ends placed))
 
-    pub fault_left : Passes reading linedefs sidedefs vertexes sectors → lump_fault reading linedefs sidedefs vertexes sectors ≡ fault_if (nat_lt (most_points reading.large) (length points)) (TooManyPoints (length points)) None
-    fault_left h = points_left reading linedefs sidedefs vertexes sectors h ∙ ap (λ (ps : List Pt). fault_if (nat_lt (most_points reading.large) (length ps)) (TooManyPoints (length ps)) None) points_are
+    pub fault_left : PassesChecks reading linedefs sidedefs vertexes sectors → lump_fault reading linedefs sidedefs vertexes sectors ≡ lump_fault_if (nat_lt (most_points reading.large) (length points)) (TooManyPoints (length points)) None
+    fault_left h = points_left reading linedefs sidedefs vertexes sectors h ∙ ap (λ (ps : List Pt). lump_fault_if (nat_lt (most_points reading.large) (length ps)) (TooManyPoints (length ps)) None) points_are
 
     module _ (lines : List (Option Line)) (looked : map (option_map (looked_up points)) lines ≡ map (option_map as_map_line) placed) where
       abbrev parts : PlanParts
@@ -147,6 +147,6 @@ module _ (reading : Reading) (linedefs sidedefs vertexes sectors : List ℕ) whe
           length_numbers k zero = refl
           length_numbers k (suc n) = ap suc (length_numbers (k + 1) n)
 
-      pub plan_is : Passes reading linedefs sidedefs vertexes sectors → length points ≤ most_points reading.large → EndsBelow (length points) lines → IsPlan parts
+      pub plan_is : PassesChecks reading linedefs sidedefs vertexes sectors → length points ≤ most_points reading.large → EndsBelow (length points) lines → IsPlan parts
       plan_is h few below = is_plan parts (subst IsMap (sym map_is) (lumps_are_map h)) (within_points reading.large (length points) few) (within_lines reading.large (length lines) (omega (arith, len_is, h.few_lines))) points_in_order
-          (λ e c. subst (λ (ps : List Pt). Contains ps e) (sym (ap (λ (ls : List (Option MapLine)). ends_of (filter_map (λ l. l) ls)) looked)) (in_order_from (placed_ends placed) e (subst (λ (ps : List Pt). Contains ps e) are c))) below
+          (λ e c. subst (λ (ps : List Pt). Contains ps e) (sym (ap (λ (ls : List (Option MapLine)). ends_of_lines (filter_map (λ l. l) ls)) looked)) (in_order_from (placed_ends placed) e (subst (λ (ps : List Pt). Contains ps e) are c))) below

@@ -18,7 +18,7 @@ AnswersFirstFault (Err (Memory _)) first = ⊤
 AnswersFirstFault (Err fault) first = first ≡ Some fault
 
 -- the checks that need no memory have passed
-pub record Passes (reading : Reading) (linedefs sidedefs vertexes sectors : List ℕ) : Type 0 where
+pub record PassesChecks (reading : Reading) (linedefs sidedefs vertexes sectors : List ℕ) : Type 0 where
   pub whole_linedefs : length linedefs % linedef_len reading.format ≡ 0
   pub whole_sidedefs : length sidedefs % 30 ≡ 0
   pub whole_vertexes : length vertexes % vertex_len reading.format ≡ 0

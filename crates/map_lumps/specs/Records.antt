@@ -4,7 +4,7 @@ use Rattle.sight_names.specs.declared.names.Pt.{Pt}
 use Rattle.sight_names.specs.declared.plan.Line.{Line}
 use Rattle.sight_names.specs.Plan.{IsBefore}
 use Rattle.sight_names.specs.Map.{MapLine}
-use Rattle.sight_names.specs.Points.{ends_of}
+use Rattle.sight_names.specs.Points.{ends_of_lines}
 use Rattle.sight_names.specs.declared.names.MapFormat.{MapFormat}
 use Rattle.sight_names.specs.Lumps.{u16_at, linedef_len, right_at, left_at, count_linedefs, line_fault}
 use Rattle.map_lumps.specs.declared.records.Linedef.{Linedef}
@@ -40,10 +40,10 @@ AllSound format linedefs sidedefs vertexes sectors = (k : ℕ) → k < count_lin
 
 -- the ends of the lines, line by line
 abbrev pub placed_ends : List (Option PlacedLine) → List Pt
-placed_ends lines = ends_of (filter_map (λ l. l) (map (option_map as_map_line) lines))
+placed_ends lines = ends_of_lines (filter_map (λ l. l) (map (option_map as_map_line) lines))
 
 -- the points ascend strictly, by x and then by y
-pub record IsInOrder (points : List Pt) : Type 0 where
+pub record ArePointsInOrder (points : List Pt) : Type 0 where
   pub ascend : (i j : ℕ) (p q : Pt) → i < j → slice_get points i ≡ Some p → slice_get points j ≡ Some q → IsBefore p q
 
 -- the ends of the lines are among the points

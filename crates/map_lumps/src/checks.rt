@@ -4,7 +4,7 @@ ghost use Rattle.std.specs.Prelude.{◌≡◌, ◌/◌, ◌<◌, ◌≤◌, fals
 ghost use Rattle.sight_names.specs.Lumps.{is_bad_side as is_bad_side_lem, is_bad_sector as is_bad_sector_lem, count_linedefs as count_linedefs_lem, line_fault as line_fault_lem, lines_fault, lump_fault, numbers_below};
 ghost use Rattle.sight_names.specs.declared.limits.TheConstants.{LARGE_LINES};
 ghost use Rattle.map_lumps.specs.Records.{AllSound};
-ghost use Rattle.map_lumps.specs.Answers.{Passes, cut_lump as cut_lump_lem};
+ghost use Rattle.map_lumps.specs.Answers.{PassesChecks, cut_lump as cut_lump_lem};
 
 use crate::limits::{most_lines, most_sectors};
 use crate::records::{
@@ -22,7 +22,7 @@ pub fn early_fault(
     sectors: &[u8],
 ) -> Option<LumpFault>
     ensures fault { IfSome result (λ fault. lump_fault reading linedefs.now sidedefs.now vertexes.now sectors.now ≡ Some fault) }
-    ensures passed { IfNone result (Passes reading linedefs.now sidedefs.now vertexes.now sectors.now) }
+    ensures passed { IfNone result (PassesChecks reading linedefs.now sidedefs.now vertexes.now sectors.now) }
 {
     let format = reading.format;
     if let Some(lump) = cut_lump(format, linedefs, sidedefs, vertexes, sectors) {

@@ -4,7 +4,7 @@ ghost use Rattle.std.specs.Prelude.{◌≡◌, ◌++◌, ◌∷◌, [], ◌<◌,
 ghost use Rattle.sight_names.specs.declared.limits.TheConstants.{LARGE_POINTS};
 ghost use Rattle.sight_names.specs.Map.{looked_up};
 ghost use Rattle.sight_names.specs.Points.{in_order};
-ghost use Rattle.map_lumps.specs.Records.{as_map_line, placed_ends, EndsAmong, EndsBelow, IsInOrder};
+ghost use Rattle.map_lumps.specs.Records.{as_map_line, placed_ends, EndsAmong, EndsBelow, ArePointsInOrder};
 
 use crate::records::PlacedLine;
 use sight_names::{Line, Pt};
@@ -49,7 +49,7 @@ pub fn plan_lines(
     lines: &[Option<PlacedLine>],
 ) -> Result<Vec<Option<Line>>, AllocError>
     requires few { length points.now ≤ LARGE_POINTS }
-    requires order { IsInOrder points.now }
+    requires order { ArePointsInOrder points.now }
     requires ends { EndsAmong points.now lines.now }
     ensures same { IfOk result (λ plan. map (option_map (looked_up points.now)) plan.items ≡ map (option_map as_map_line) lines.now) }
     ensures within { IfOk result (λ plan. EndsBelow (length points.now) plan.items) }
@@ -64,7 +64,7 @@ pub fn plan_lines(
 /// A line between the numbers of its ends, where there is one.
 fn plan_entry(points: &[Pt], line: Option<PlacedLine>) -> Option<Line>
     requires few { length points.now ≤ LARGE_POINTS }
-    requires order { IsInOrder points.now }
+    requires order { ArePointsInOrder points.now }
     requires ends { EndsAmong points.now (line ∷ []) }
     ensures same { option_map (looked_up points.now) result ≡ option_map as_map_line line }
     ensures within { IfSome result (λ l. (l.a < length points.now) × (l.b < length points.now)) }
@@ -82,7 +82,7 @@ fn plan_entry(points: &[Pt], line: Option<PlacedLine>) -> Option<Line>
 /// The number of a point.
 fn number_of(points: &[Pt], point: Pt) -> u16
     requires few { length points.now ≤ LARGE_POINTS }
-    requires order { IsInOrder points.now }
+    requires order { ArePointsInOrder points.now }
     requires there { Contains points.now point }
     ensures { slice_get points.now result ≡ Some point }
 {

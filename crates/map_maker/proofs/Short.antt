@@ -11,7 +11,7 @@ use Rattle.sight_names.specs.declared.faults.RewriteFault.{RewriteFault}
 use Rattle.sight_names.specs.declared.faults.RewriteFault.TheVariants as fault
 use Rattle.wad_dir.specs.Print.{print, printed_len}
 use Rattle.wad_dir.specs.Wad.{WadFile}
-use Rattle.wad_dir.specs.WadRewrite.Rewrite.{Writes, printed}
+use Rattle.wad_dir.specs.WadRewrite.Rewrite.{WritesWad, printed}
 use Rattle.map_maker.specs.declared.lines.Spot.{Spot}
 use Rattle.map_maker.specs.declared.lines.Line.{Line}
 use Rattle.map_maker.specs.declared.lines.Part.{Part}
@@ -185,10 +185,10 @@ fits n Hexen small = printed_whole (hexen_file n) (hexen_few n small) (hexens_sh
 fits n Text small = printed_whole (doom_file n) (doom_few n small) (doom_short n small)
 
 -- .. and no limit refuses it
-pub refused : {A : Type 0} (view : A → List ℕ) (n : ℕ) (f : MapFormat) (r : Result A RewriteFault) (g : RewriteFault) → n ≤ 18 → Writes view r (printed (grid_file n f)) → r ≡ Err g → (g ≡ fault.TooManyLumps) ⊎ (g ≡ fault.TooLong) → ⊥
-refused {A = A} view n f r g small w is limit = by_answer r (subst (λ (x : Result (List ℕ) RewriteFault). Writes view r x) (fits n f small) w) is limit
+pub refused : {A : Type 0} (view : A → List ℕ) (n : ℕ) (f : MapFormat) (r : Result A RewriteFault) (g : RewriteFault) → n ≤ 18 → WritesWad view r (printed (grid_file n f)) → r ≡ Err g → (g ≡ fault.TooManyLumps) ⊎ (g ≡ fault.TooLong) → ⊥
+refused {A = A} view n f r g small w is limit = by_answer r (subst (λ (x : Result (List ℕ) RewriteFault). WritesWad view r x) (fits n f small) w) is limit
   where
-    by_answer : (s : Result A RewriteFault) → Writes view s (Ok (print (grid_file n f))) → s ≡ Err g → (g ≡ fault.TooManyLumps) ⊎ (g ≡ fault.TooLong) → ⊥
+    by_answer : (s : Result A RewriteFault) → WritesWad view s (Ok (print (grid_file n f))) → s ≡ Err g → (g ≡ fault.TooManyLumps) ⊎ (g ≡ fault.TooLong) → ⊥
     by_answer (Ok v) said e l = absurd cc
     by_answer (Err (fault.Memory _)) said e (inl l) = absurd cc
     by_answer (Err (fault.Memory _)) said e (inr l) = absurd cc

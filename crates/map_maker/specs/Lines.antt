@@ -8,8 +8,8 @@ use Rattle.map_maker.specs.declared.lines.Part.TheVariants.{Room, East, North}
 abbrev pub at_place : ℕ → ℕ → Spot
 at_place x y = record { x = x; y = y }
 
-abbrev pub line : Spot → Spot → ℕ → Option ℕ → Line
-line from to right left = record { from = from; to = to; right = right; left = left }
+abbrev pub line_between : Spot → Spot → ℕ → Option ℕ → Line
+line_between from to right left = record { from = from; to = to; right = right; left = left }
 
 -- the sector of the room in column i and row j
 abbrev pub room_sector : ℕ → ℕ → ℕ → ℕ
@@ -26,8 +26,8 @@ north_sector n i j = n * n + n * (n - 1) + j * n + i
 -- A wall from one corner to the next: one line, or three where a corridor ends at it, with the room on the right.
 -- The middle one is the corridor's end, with the corridor on its left.
 abbrev pub wall_lines : Spot → Spot → Spot → Spot → ℕ → Option ℕ → List Line
-wall_lines first a b last room None = line first last room None ∷ []
-wall_lines first a b last room (Some corridor) = line first a room None ∷ line a b room (Some corridor) ∷ line b last room None ∷ []
+wall_lines first a b last room None = line_between first last room None ∷ []
+wall_lines first a b last room (Some corridor) = line_between first a room None ∷ line_between a b room (Some corridor) ∷ line_between b last room None ∷ []
 
 -- the corridors that end at a room's walls
 abbrev pub west_end : ℕ → ℕ → ℕ → Option ℕ
@@ -57,14 +57,14 @@ abbrev pub east_lines : ℕ → ℕ → ℕ → List Line
 east_lines n i j =
     let x : ℕ = 192 * i in
     let y : ℕ = 192 * j in
-    line (at_place (x + 128) (y + 80)) (at_place (x + 192) (y + 80)) (east_sector n i j) None ∷ line (at_place (x + 192) (y + 48)) (at_place (x + 128) (y + 48)) (east_sector n i j) None ∷ []
+    line_between (at_place (x + 128) (y + 80)) (at_place (x + 192) (y + 80)) (east_sector n i j) None ∷ line_between (at_place (x + 192) (y + 48)) (at_place (x + 128) (y + 48)) (east_sector n i j) None ∷ []
 
 -- a corridor that runs north: its left line northward, then its right line southward
 abbrev pub north_lines : ℕ → ℕ → ℕ → List Line
 north_lines n i j =
     let x : ℕ = 192 * i in
     let y : ℕ = 192 * j in
-    line (at_place (x + 48) (y + 128)) (at_place (x + 48) (y + 192)) (north_sector n i j) None ∷ line (at_place (x + 80) (y + 192)) (at_place (x + 80) (y + 128)) (north_sector n i j) None ∷ []
+    line_between (at_place (x + 48) (y + 128)) (at_place (x + 48) (y + 192)) (north_sector n i j) None ∷ line_between (at_place (x + 80) (y + 192)) (at_place (x + 80) (y + 128)) (north_sector n i j) None ∷ []
 
 abbrev pub part_lines : Part → ℕ → ℕ → ℕ → List Line
 part_lines Room = room_lines

@@ -28,9 +28,9 @@ points_after points [] = points
 points_after points (l ∷ ls) = points_after (with_point (with_point points l.from) l.to) ls
 
 -- the place of a point
-abbrev pub place_of : Spot → List Spot → ℕ
-place_of p [] = 0
-place_of p (q ∷ qs) = if same_spot p q then 0 else 1 + place_of p qs
+abbrev pub spot_place : Spot → List Spot → ℕ
+spot_place p [] = 0
+spot_place p (q ∷ qs) = if same_spot p q then 0 else 1 + spot_place p qs
 
 -- how many sides a line has, its flags (4 is the two-sided flag, 1 blocks), and its left side, where 65,535 is none
 abbrev pub side_count : Option ℕ → ℕ
@@ -41,13 +41,13 @@ abbrev pub flags_of : Option ℕ → ℕ
 flags_of None = 1
 flags_of (Some sector) = 4
 
-abbrev pub left_side : ℕ → Option ℕ → ℕ
-left_side side None = 65535
-left_side side (Some sector) = side + 1
+abbrev pub left_side_number : ℕ → Option ℕ → ℕ
+left_side_number side None = 65535
+left_side_number side (Some sector) = side + 1
 
 -- a record of LINEDEFS: the two points, the flags, no special, no tag, the two sides
 unfoldable pub linedef : List Spot → ℕ → Line → List ℕ
-linedef points side l = short (place_of l.from points) ++ short (place_of l.to points) ++ short (flags_of l.left) ++ short 0 ++ short 0 ++ short side ++ short (left_side side l.left)
+linedef points side l = short (spot_place l.from points) ++ short (spot_place l.to points) ++ short (flags_of l.left) ++ short 0 ++ short 0 ++ short side ++ short (left_side_number side l.left)
 
 -- the lines' records, whose sides are numbered from one on
 abbrev pub linedefs_from : List Spot → ℕ → List Line → List ℕ
@@ -75,15 +75,15 @@ abbrev pub vertexes_of : List Spot → List ℕ
 vertexes_of [] = []
 vertexes_of (p ∷ ps) = (short p.x ++ short p.y) ++ vertexes_of ps
 
-abbrev pub named : List ℕ → List ℕ → WadLump
-named name bytes = record { name = name; bytes = bytes }
+abbrev pub lump_named : List ℕ → List ℕ → WadLump
+lump_named name bytes = record { name = name; bytes = bytes }
 
 -- the map as lumps: those that aren't read, and the table, are empty
 abbrev pub lumps_with : List ℕ → List ℕ → List ℕ → List ℕ → List WadLump
 lumps_with linedefs sidedefs vertexes sectors =
-    named (codes "MAP01" ++ 0 ∷ 0 ∷ 0 ∷ []) [] ∷ named (codes "THINGS" ++ 0 ∷ 0 ∷ []) [] ∷ named (codes "LINEDEFS") linedefs ∷ named (codes "SIDEDEFS") sidedefs ∷ named (codes "VERTEXES") vertexes
-    ∷ named (codes "SEGS" ++ 0 ∷ 0 ∷ 0 ∷ 0 ∷ []) [] ∷ named (codes "SSECTORS") [] ∷ named (codes "NODES" ++ 0 ∷ 0 ∷ 0 ∷ []) [] ∷ named (codes "SECTORS" ++ 0 ∷ []) sectors
-    ∷ named (codes "REJECT" ++ 0 ∷ 0 ∷ []) [] ∷ named (codes "BLOCKMAP") [] ∷ []
+    lump_named (codes "MAP01" ++ 0 ∷ 0 ∷ 0 ∷ []) [] ∷ lump_named (codes "THINGS" ++ 0 ∷ 0 ∷ []) [] ∷ lump_named (codes "LINEDEFS") linedefs ∷ lump_named (codes "SIDEDEFS") sidedefs ∷ lump_named (codes "VERTEXES") vertexes
+    ∷ lump_named (codes "SEGS" ++ 0 ∷ 0 ∷ 0 ∷ 0 ∷ []) [] ∷ lump_named (codes "SSECTORS") [] ∷ lump_named (codes "NODES" ++ 0 ∷ 0 ∷ 0 ∷ []) [] ∷ lump_named (codes "SECTORS" ++ 0 ∷ []) sectors
+    ∷ lump_named (codes "REJECT" ++ 0 ∷ 0 ∷ []) [] ∷ lump_named (codes "BLOCKMAP") [] ∷ []
 
 -- the points of the map of n times n rooms, and its LINEDEFS
 unfoldable pub points_in : ℕ → List Spot
@@ -102,7 +102,7 @@ doom_file n = record { kind = Pwad; lumps = grid_lumps n (linedefs_in n) }
 
 -- .. and in Hexen's, with an empty BEHAVIOR
 unfoldable pub hexen_file : ℕ → WadFile
-hexen_file n = record { kind = Pwad; lumps = grid_lumps n (hexen_of (linedefs_in n)) ++ named (codes "BEHAVIOR") [] ∷ [] }
+hexen_file n = record { kind = Pwad; lumps = grid_lumps n (hexen_of (linedefs_in n)) ++ lump_named (codes "BEHAVIOR") [] ∷ [] }
 
 abbrev pub grid_file : ℕ → MapFormat → WadFile
 grid_file n Doom = doom_file n

@@ -1,7 +1,7 @@
 //! The lines of a made map.
 
 ghost use Rattle.std.specs.Prelude.{◌≡◌, ◌≤◌, ◌<◌, ◌-◌, ◌++◌, ◌∷◌, [], OnOk, IfOk};
-ghost use Rattle.map_maker.specs.Lines.{at_place, line, wall_lines, room_sector, east_sector, north_sector, room_lines, east_lines, north_lines, part_lines, row, rows, lines_of};
+ghost use Rattle.map_maker.specs.Lines.{at_place, line_between, wall_lines, room_sector, east_sector, north_sector, room_lines, east_lines, north_lines, part_lines, row, rows, lines_of};
 
 use std::alloc::{AllocError, Global};
 
@@ -42,7 +42,7 @@ fn push_line(
     right: usize,
     left: Option<usize>,
 ) -> Result<(), AllocError>
-    ensures { OnOk result (lines.new.items ≡ lines.old.items ++ line from to right left ∷ []) }
+    ensures { OnOk result (lines.new.items ≡ lines.old.items ++ line_between from to right left ∷ []) }
 {
     lines.push(Line {
         from,

@@ -1,7 +1,7 @@
 //! The records of a made map.
 
 ghost use Rattle.std.specs.Prelude.{◌≡◌, ◌≤◌, ◌+◌, ◌*◌, ◌^◌, ◌++◌, OnOk, IfOk, replicate};
-ghost use Rattle.map_maker.specs.Lumps.{short, linedef, linedefs_from, sidedef, sidedefs_of, vertexes_of, side_count, flags_of, left_side, left_sidedef};
+ghost use Rattle.map_maker.specs.Lumps.{short, linedef, linedefs_from, sidedef, sidedefs_of, vertexes_of, side_count, flags_of, left_side_number, left_sidedef};
 
 use crate::lines::{Line, Spot};
 use crate::points::place;
@@ -40,7 +40,7 @@ fn sides(left: Option<usize>) -> usize
 
 fn left_number(side: usize, left: Option<usize>) -> usize
     requires { side ≤ 2 ^ 62 }
-    ensures { result ≡ left_side side left }
+    ensures { result ≡ left_side_number side left }
 {
     match left {
         None => 65_535,

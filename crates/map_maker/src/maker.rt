@@ -3,9 +3,9 @@
 ghost use Rattle.std.specs.Prelude.{◌≡◌, ◌≤◌, ◌++◌, ◌∷◌, [], IfOk, codes, replicate, ◌*◌};
 ghost use Rattle.wad_dir.specs.Print.{print};
 ghost use Rattle.wad_dir.specs.WadRewrite.Lumps.{views};
-ghost use Rattle.wad_dir.specs.WadRewrite.Rewrite.{Writes, printed};
+ghost use Rattle.wad_dir.specs.WadRewrite.Rewrite.{WritesWad, printed};
 ghost use Rattle.map_maker.specs.Lines.{lines_of, sector_count};
-ghost use Rattle.map_maker.specs.Lumps.{doom_file, grid_file, hexen_file, linedefs_from, linedefs_in, lumps_with, named, points_in, sidedefs_of, vertexes_of};
+ghost use Rattle.map_maker.specs.Lumps.{doom_file, grid_file, hexen_file, linedefs_from, linedefs_in, lumps_with, lump_named, points_in, sidedefs_of, vertexes_of};
 
 use crate::lines::{Line, Spot, lines};
 use crate::lumps::{linedefs, sidedefs, vertexes, zeros};
@@ -36,7 +36,7 @@ fn lumps_of<'a>(
     vertexes: &'a [u8],
     sectors: &'a [u8],
 ) -> [OutputLump<'a>; 12]
-    ensures { views result ≡ lumps_with linedefs.entry.now sidedefs.entry.now vertexes.entry.now sectors.entry.now ++ named (codes "BEHAVIOR") [] ∷ [] }
+    ensures { views result ≡ lumps_with linedefs.entry.now sidedefs.entry.now vertexes.entry.now sectors.entry.now ++ lump_named (codes "BEHAVIOR") [] ∷ [] }
 {
     [
         OutputLump {
@@ -140,7 +140,7 @@ fn parts_of(alloc: Global, n: usize) -> Result<Parts, AllocError>
 fn doom(alloc: Global, n: u16) -> Result<Vec<u8>, RewriteFault>
     requires some { 1 ≤ n }
     requires side { n ≤ 18 }
-    ensures { Writes (λ v. v.items) result (printed (doom_file n)) }
+    ensures { WritesWad (λ v. v.items) result (printed (doom_file n)) }
 {
     let parts = parts_of(alloc, n as usize)?;
     let lumps = lumps_of(
@@ -157,7 +157,7 @@ fn doom(alloc: Global, n: u16) -> Result<Vec<u8>, RewriteFault>
 fn hexen(alloc: Global, n: u16) -> Result<Vec<u8>, RewriteFault>
     requires some { 1 ≤ n }
     requires side { n ≤ 18 }
-    ensures { Writes (λ v. v.items) result (printed (hexen_file n)) }
+    ensures { WritesWad (λ v. v.items) result (printed (hexen_file n)) }
 {
     let parts = parts_of(alloc, n as usize)?;
     let linedefs = to_hexen(alloc, &parts.linedefs)?;
@@ -168,7 +168,7 @@ fn hexen(alloc: Global, n: u16) -> Result<Vec<u8>, RewriteFault>
 fn written(alloc: Global, n: u16, format: MapFormat) -> Result<Vec<u8>, RewriteFault>
     requires some { 1 ≤ n }
     requires side { n ≤ 18 }
-    ensures { Writes (λ v. v.items) result (printed (grid_file n format)) }
+    ensures { WritesWad (λ v. v.items) result (printed (grid_file n format)) }
 {
     match format {
         // the lumps that a text spells aren't made

@@ -1,7 +1,7 @@
 //! The points of a made map.
 
 ghost use Rattle.std.specs.Prelude.{◌≡◌, [], IfOk};
-ghost use Rattle.map_maker.specs.Lumps.{points_after, place_of};
+ghost use Rattle.map_maker.specs.Lumps.{points_after, spot_place};
 
 use crate::lines::{Line, Spot};
 use indexmap::IndexSet;
@@ -21,7 +21,7 @@ pub fn points(alloc: Global, lines: &[Line]) -> Result<IndexSet<Spot>, AllocErro
 
 /// The place of a point, or their number where it isn't among them.
 pub fn place(points: &IndexSet<Spot>, p: Spot) -> usize
-    ensures { result ≡ place_of p points.now.keys }
+    ensures { result ≡ spot_place p points.now.keys }
 {
     match points.get_index_of(&p) {
         Some(place) => place,

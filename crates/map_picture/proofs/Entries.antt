@@ -8,7 +8,7 @@ use Rattle.sight_names.specs.Mesh.{IsAbove}
 use Rattle.sight_names.specs.Order.{Ascends}
 use Rattle.map_picture.specs.declared.pair.Stop.{Stop}
 use Rattle.map_picture.specs.declared.sheet.Subject.TheVariants as subject
-use Rattle.map_picture.specs.Picture.{NamedParts, Entered, Stops, blind_picture, numbered, pair_faces, pair_rings, pair_tint}
+use Rattle.map_picture.specs.Picture.{NamedParts, Entered, Stops, blind_picture, triangles_with_numbers, pair_faces, pair_rings, pair_tint}
 use Rattle.map_picture.specs.Laws.{ShowsEntered, ShowsStops}
 use Rattle.map_picture.proofs.Pieces.{has_behind, has_over, has_under}
 use Rattle.map_picture.proofs.Extras.{blind_words, rings_words}
@@ -59,9 +59,9 @@ entered_shown name m groups ts labels a b sector entered stops within =
     let h = there ts entered within in
     let faces = pair_faces groups ts labels a b in
     record {
-      shown = numbered ts entered;
-      has = has_under name (subject.Pair a b) m (faces ++ Entered sector (numbered ts entered) ∷ []) (Stops stops ∷ [] ++ pair_rings m groups ts labels a b) (Entered sector (numbered ts entered)) (has_behind faces (Entered sector (numbered ts entered) ∷ []) (Entered sector (numbered ts entered)) (zero, refl));
-      once = λ i j one two us vs at more. (blind_words name (subject.Pair a b) m ts labels (map (pair_tint a b) groups) groups (pair_rings m groups ts labels a b) (rings_words m groups ts labels a b) sector (numbered ts entered) stops).open_once i j (Entered one us) (Entered two vs) at more refl refl;
+      shown = triangles_with_numbers ts entered;
+      has = has_under name (subject.Pair a b) m (faces ++ Entered sector (triangles_with_numbers ts entered) ∷ []) (Stops stops ∷ [] ++ pair_rings m groups ts labels a b) (Entered sector (triangles_with_numbers ts entered)) (has_behind faces (Entered sector (triangles_with_numbers ts entered) ∷ []) (Entered sector (triangles_with_numbers ts entered)) (zero, refl));
+      once = λ i j one two us vs at more. (blind_words name (subject.Pair a b) m ts labels (map (pair_tint a b) groups) groups (pair_rings m groups ts labels a b) (rings_words m groups ts labels a b) sector (triangles_with_numbers ts entered) stops).open_once i j (Entered one us) (Entered two vs) at more refl refl;
       exactly = λ u. ((λ c. from_numbers ts entered u h c), (λ r. has_numbered ts entered u r.0 r.1 r.2));
       order = in_order ts entered h;
     }
@@ -70,6 +70,6 @@ pub stops_shown : (name : NamedParts) (m : Map) (groups : List (List ℕ)) (ts :
 stops_shown name m groups ts labels a b sector entered stops =
     let faces = pair_faces groups ts labels a b in
     record {
-      has = has_over name (subject.Pair a b) m (faces ++ Entered sector (numbered ts entered) ∷ []) (Stops stops ∷ [] ++ pair_rings m groups ts labels a b) (Stops stops) (zero, refl);
-      once = λ i j ss us at more. (blind_words name (subject.Pair a b) m ts labels (map (pair_tint a b) groups) groups (pair_rings m groups ts labels a b) (rings_words m groups ts labels a b) sector (numbered ts entered) stops).stops_once i j (Stops ss) (Stops us) at more refl refl;
+      has = has_over name (subject.Pair a b) m (faces ++ Entered sector (triangles_with_numbers ts entered) ∷ []) (Stops stops ∷ [] ++ pair_rings m groups ts labels a b) (Stops stops) (zero, refl);
+      once = λ i j ss us at more. (blind_words name (subject.Pair a b) m ts labels (map (pair_tint a b) groups) groups (pair_rings m groups ts labels a b) (rings_words m groups ts labels a b) sector (triangles_with_numbers ts entered) stops).stops_once i j (Stops ss) (Stops us) at more refl refl;
     }

@@ -19,7 +19,7 @@ use Rattle.map_picture.specs.declared.rings.Letter.{Letter}
 use Rattle.map_picture.specs.declared.rings.Letter.TheVariants as letter
 use Rattle.map_picture.specs.declared.sheet.Subject.{Subject}
 use Rattle.map_picture.specs.declared.sheet.Subject.TheVariants as subject
-use Rattle.map_picture.specs.Picture.{NamedParts, Element, Head, Title, Style, Paper, Scale, Face, Line, Entered, Stops, Ring, Legend, Foot, blind_picture, faces_from, has_label, heat_picture, heat_tints, labelled_with, most_of, numbered, pair_picture, pair_rings, pair_tint, picture_of, plan_picture, ring_of, row_picture, row_tint, sight_between, sight_elements, sight_picture}
+use Rattle.map_picture.specs.Picture.{NamedParts, Element, Head, Title, Style, Paper, Scale, Face, Line, Entered, Stops, Ring, Legend, Foot, blind_picture, faces_from, has_label, heat_picture, heat_tints, labelled_with, most_of, triangles_with_numbers, pair_picture, pair_rings, pair_tint, picture_of, plan_picture, ring_of, row_picture, row_tint, sight_between, sight_elements, sight_picture}
 use Rattle.map_picture.specs.Laws.{Has, HasNoLine, ShowsFaces, TellsHeat, TellsNothing, TellsPair, TellsRow}
 use Rattle.map_picture.proofs.Pieces.{NotSo, all_ring, all_rings, at_under, has_under, in_front, still_there}
 
@@ -321,5 +321,5 @@ module _ (name : NamedParts) (m : Map) (groups : List (List ℕ)) (ts : List Tri
 
     pub blind_faces : (sector : ℕ) (entered : List ℕ) (stops : List Stop) → ShowsFaces groups ts labels (TellsPair a b) (blind_picture name m groups ts labels a b sector entered stops)
     blind_faces sector entered stops =
-        faces_shown name (subject.Pair a b) m groups ts labels (TellsPair a b) (pair_tint a b) (told_pair a b) (Entered sector (numbered ts entered) ∷ []) (Stops stops ∷ [] ++ pair_rings m groups ts labels a b)
+        faces_shown name (subject.Pair a b) m groups ts labels (TellsPair a b) (pair_tint a b) (told_pair a b) (Entered sector (triangles_with_numbers ts entered) ∷ []) (Stops stops ∷ [] ++ pair_rings m groups ts labels a b)
         ((λ k g names shown e. cc), tt) ((λ k g names shown e. cc), rings_none)

@@ -4,16 +4,16 @@ use Rattle.std.proofs.lemmas.List.{append_assoc, append-nil}
 use Rattle.sight_names.specs.Map.{Map}
 use Rattle.map_picture.specs.declared.frame.Frame.{Frame}
 use Rattle.map_picture.specs.declared.frame.Sizes.{Sizes}
-use Rattle.map_picture.specs.Frame.{sizes_of, width_of}
+use Rattle.map_picture.specs.Frame.{sizes_of_frame, width_of}
 use Rattle.map_picture.specs.Scale.{bar_for}
-use Rattle.map_picture.specs.Bytes.{head_text, paper_text, scale_text, spelled, style_text, title_text}
+use Rattle.map_picture.specs.Bytes.{head_text, paper_text, scale_text, spelled_picture, style_text, title_text}
 use Rattle.map_picture.specs.declared.sheet.Subject.{Subject}
 use Rattle.map_picture.specs.Picture.{NamedParts, sheet_of}
 
-pub sheet_spelled : (f : Frame) (m : Map) (name : NamedParts) (about : Subject) (s : Sizes) → s ≡ sizes_of f
-    → head_text s ++ title_text name.text about ++ style_text s ++ paper_text s ++ scale_text s (bar_for (width_of f) name.places) ≡ spelled f m (sheet_of name about)
+pub sheet_spelled : (f : Frame) (m : Map) (name : NamedParts) (about : Subject) (s : Sizes) → s ≡ sizes_of_frame f
+    → head_text s ++ title_text name.text about ++ style_text s ++ paper_text s ++ scale_text s (bar_for (width_of f) name.places) ≡ spelled_picture f m (sheet_of name about)
 sheet_spelled f m name about s e =
-    let t = sizes_of f in
+    let t = sizes_of_frame f in
     let c = bar_for (width_of f) name.places in
     let title = title_text name.text about in
     ap (λ (z : Sizes). head_text z ++ title ++ style_text z ++ paper_text z ++ scale_text z c) e

@@ -5,7 +5,7 @@ use Rattle.std.proofs.lemmas.Int.{ints, clamps}
 use Rattle.math_base.proofs.Lists.{contains_none, contains_cons}
 use Rattle.sight_names.specs.declared.names.Pt.{Pt}
 use Rattle.map_picture.specs.declared.frame.Frame.{Frame}
-use Rattle.map_picture.specs.Frame.{frame_at, frame_of, widened, widened_by}
+use Rattle.map_picture.specs.Frame.{frame_at, frame_of_points, widened, widened_by}
 use Rattle.map_picture.specs.Laws.{IsReadBack}
 
 record IsIn (f : Frame) (p : Pt) : Type 0 where
@@ -36,7 +36,7 @@ all_in f p (q ∷ ps) c = ⊎_elim
 at_itself : (p : Pt) → IsIn (frame_at p) p
 at_itself p = record { left = omega (arith, ints); right = omega (arith, ints); bottom = omega (arith, ints); top = omega (arith, ints) }
 
-in_frame : (ps : List Pt) (p : Pt) → Contains ps p → IsIn (frame_of ps) p
+in_frame : (ps : List Pt) (p : Pt) → Contains ps p → IsIn (frame_of_points ps) p
 in_frame [] p c = absurd (contains_none p c)
 in_frame (q ∷ ps) p c = ⊎_elim
     (λ same. kept_in (frame_at q) p ps (subst (λ (r : Pt). IsIn (frame_at q) r) same (at_itself q)))
@@ -69,8 +69,8 @@ more a b c h = omega (arith, ints)
 both : (a b c : ℤ) → a ≤ℤ b → b ≤ℤ c → a ≤ℤ c
 both a b c h k = omega (arith, ints)
 
-pub read_back : (ps : List Pt) (p : Pt) → Contains ps p → IsReadBack (frame_of ps) p
-read_back ps p c = back (frame_of ps) (in_frame ps p c)
+pub read_back : (ps : List Pt) (p : Pt) → Contains ps p → IsReadBack (frame_of_points ps) p
+read_back ps p c = back (frame_of_points ps) (in_frame ps p c)
   where
     back : (f : Frame) → IsIn f p → IsReadBack f p
     back f h = record {

@@ -20,7 +20,7 @@ use Rattle.map_picture.specs.declared.rings.Letter.{Letter}
 use Rattle.map_picture.specs.declared.rings.Letter.TheVariants as letter
 use Rattle.map_picture.specs.declared.sheet.Subject.TheVariants as subject
 use Rattle.map_picture.specs.declared.tint.Tint.TheVariants as tint
-use Rattle.map_picture.specs.Picture.{NamedParts, Element, Head, Title, Style, Paper, Scale, Face, Line, Entered, Stops, Sight, Marked, Fault, Out, Ring, Legend, Foot, arrows_from, blind_picture, faces_from, faults_from, heat_picture, heat_tints, marked_picture, most_of, numbered, pair_faces, pair_picture, pair_rings, pair_tint, plan_faces, plan_picture, ring_of, row_picture, row_tint, sight_between, sight_elements, sight_picture}
+use Rattle.map_picture.specs.Picture.{NamedParts, Element, Head, Title, Style, Paper, Scale, Face, Line, Entered, Stops, Sight, Marked, Fault, Out, Ring, Legend, Foot, arrows_from, blind_picture, faces_from, faults_from, heat_picture, heat_tints, marked_picture, most_of, triangles_with_numbers, pair_faces, pair_picture, pair_rings, pair_tint, plan_faces, plan_picture, ring_of, row_picture, row_tint, sight_between, sight_elements, sight_picture}
 use Rattle.map_picture.specs.Laws.{Has, HasNoLine, IdsAreOnce, ShowsFaces, ShowsLines, TellsHeat, TellsNothing, TellsPair, TellsRow}
 use Rattle.map_picture.proofs.Ordered.{NoLine, lines_shown, no_lines}
 use Rattle.map_picture.proofs.Pieces.{AtMostOne, all_arrows, all_faults, all_ring, all_rings}
@@ -246,6 +246,6 @@ module _ (name : NamedParts) (m : Map) (groups : List (List ℕ)) (ts : List Tri
     pub blind_ids : (sector : ℕ) (entered : List ℕ) (stops : List Stop) → length m.lines ≤ 2 ^ 64 → length groups ≤ 2 ^ 64 → IdsAreOnce (blind_picture name m groups ts labels a b sector entered stops)
     blind_ids sector entered stops few some =
         ids_once m (blind_picture name m groups ts labels a b sector entered stops)
-        (lines_shown name (subject.Pair a b) m _ (Stops stops ∷ [] ++ pair_rings m groups ts labels a b) (no_line_entered groups ts labels a b sector (numbered ts entered)) (no_line_stops m groups ts labels a b stops)) few
+        (lines_shown name (subject.Pair a b) m _ (Stops stops ∷ [] ++ pair_rings m groups ts labels a b) (no_line_entered groups ts labels a b sector (triangles_with_numbers ts entered)) (no_line_stops m groups ts labels a b stops)) few
         (faces_once groups ts labels (TellsPair a b) _ some (blind_faces name m groups ts labels a b sector entered stops))
-        (blind_words name (subject.Pair a b) m ts labels (map (pair_tint a b) groups) groups (pair_rings m groups ts labels a b) (rings_words m groups ts labels a b) sector (numbered ts entered) stops)
+        (blind_words name (subject.Pair a b) m ts labels (map (pair_tint a b) groups) groups (pair_rings m groups ts labels a b) (rings_words m groups ts labels a b) sector (triangles_with_numbers ts entered) stops)

@@ -4,11 +4,11 @@ use Rattle.std.proofs.lemmas.Option.{none-some, same_Some}
 use Rattle.math_base.proofs.Lists.{contains_here, contains_there}
 use Rattle.sight_names.specs.declared.names.Pt.{Pt}
 use Rattle.sight_names.specs.Map.{Map, MapLine, line_at}
-use Rattle.sight_names.specs.Points.{ends_of, points_of}
+use Rattle.sight_names.specs.Points.{ends_of_lines, points_of}
 use Rattle.sight_names.proofs.PlanPoints.{in_order_has}
 
 abbrev ends : List (Option MapLine) → List Pt
-ends ls = ends_of (filter_map (λ l. l) ls)
+ends ls = ends_of_lines (filter_map (λ l. l) ls)
 
 at_place : (o : Option (Option MapLine)) (l : MapLine) → option_and_then (λ l. l) o ≡ Some l → o ≡ Some (Some l)
 at_place None l e = absurd (none-some l e)

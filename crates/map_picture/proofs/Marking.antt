@@ -17,8 +17,8 @@ use Rattle.map_picture.specs.declared.faults.PointFault.{PointFault}
 use Rattle.map_picture.specs.declared.frame.Frame.{Frame}
 use Rattle.map_picture.specs.declared.sheet.Subject.{Subject}
 use Rattle.map_picture.specs.declared.sheet.Subject.TheVariants as subject
-use Rattle.map_picture.specs.Bytes.{arrow_text, arrow_texts, bytes_of, corners_in, fault_place_text, fault_text, fault_texts, spelled}
-use Rattle.map_picture.specs.Picture.{NamedParts, Element, Head, Title, Style, Paper, Scale, Line, Marked, Fault, Out, Foot, arrows_from, fault_if, faults_from, marked_picture}
+use Rattle.map_picture.specs.Bytes.{arrow_text, arrow_texts, bytes_of_element, corners_in, fault_place_text, fault_text, fault_texts, spelled_picture}
+use Rattle.map_picture.specs.Picture.{NamedParts, Element, Head, Title, Style, Paper, Scale, Line, Marked, Fault, Out, Foot, arrows_from, fault_mark_if, faults_from, marked_picture}
 use Rattle.map_picture.specs.Laws.{Has, ShowsArrows, ShowsFaults, ShowsMarks}
 use Rattle.map_picture.proofs.Pieces.{NotSo, all_arrows, all_faults, at_over, behind, has_before, has_behind, has_over, in_front}
 use Rattle.map_picture.proofs.Extras.{faults_words, one_over}
@@ -33,10 +33,10 @@ marks_shown name m left_out marks faults arrows = record {
 
 has_fault : (places : ℕ) (a : FaultAt) (faults : List FaultAt) (c : Pt) → Contains faults a → a.at ≡ Some c → Has (faults_from places faults) (Fault places a.fault c)
 has_fault places a [] c h at = absurd (contains_none a h)
-has_fault places a (b ∷ faults) c h at = elim (contains_cons a b faults h) as (λ _. Has (fault_if places b.fault b.at ++ faults_from places faults) (Fault places a.fault c)) [
-  | inl same ↦ has_before (fault_if places b.fault b.at) (faults_from places faults) (Fault places a.fault c)
-      (subst (λ (x : FaultAt). Has (fault_if places x.fault x.at) (Fault places a.fault c)) (sym same) (subst (λ (o : Option Pt). Has (fault_if places a.fault o) (Fault places a.fault c)) (sym at) (zero, refl)))
-  | inr later ↦ has_behind (fault_if places b.fault b.at) (faults_from places faults) (Fault places a.fault c) (has_fault places a faults c later at)
+has_fault places a (b ∷ faults) c h at = elim (contains_cons a b faults h) as (λ _. Has (fault_mark_if places b.fault b.at ++ faults_from places faults) (Fault places a.fault c)) [
+  | inl same ↦ has_before (fault_mark_if places b.fault b.at) (faults_from places faults) (Fault places a.fault c)
+      (subst (λ (x : FaultAt). Has (fault_mark_if places x.fault x.at) (Fault places a.fault c)) (sym same) (subst (λ (o : Option Pt). Has (fault_mark_if places a.fault o) (Fault places a.fault c)) (sym at) (zero, refl)))
+  | inr later ↦ has_behind (fault_mark_if places b.fault b.at) (faults_from places faults) (Fault places a.fault c) (has_fault places a faults c later at)
 ]
 
 abbrev at_point : PointFault → Pt → FaultAt
@@ -56,7 +56,7 @@ one_point places told a what d c at e = λ i. record { fault = same_fault places
 
 -- among the rings of the first one and those of the others
 of_first : (places told : ℕ) (a : FaultAt) (faults : List FaultAt) (what : PointFault) (c : Pt) → ((k : ℕ) → slice_get (faults_from places faults) k ≡ Some (Fault told what c) → Contains faults (at_point what c))
-    → (o : Option Pt) → a.at ≡ o → (k : ℕ) → slice_get (fault_if places a.fault o ++ faults_from places faults) k ≡ Some (Fault told what c) → Contains (a ∷ faults) (at_point what c)
+    → (o : Option Pt) → a.at ≡ o → (k : ℕ) → slice_get (fault_mark_if places a.fault o ++ faults_from places faults) k ≡ Some (Fault told what c) → Contains (a ∷ faults) (at_point what c)
 of_first places told a faults what c rest None e k at = contains_there (at_point what c) a faults (rest k at)
 of_first places told a faults what c rest (Some d) e zero at = subst (λ (x : FaultAt). Contains (a ∷ faults) x) (one_point places told a what d c e (same_Some (Fault places a.fault d) (Fault told what c) at)) (contains_here a faults)
 of_first places told a faults what c rest (Some d) e (suc k) at = contains_there (at_point what c) a faults (rest k at)
@@ -186,22 +186,22 @@ module _ (name : NamedParts) (m : Map) (left_out : ℕ) (marks : List ℕ) (faul
 
 -- ---- their bytes
 
-if_spelled : (f : Frame) (m : Map) (places : ℕ) (what : PointFault) (o : Option Pt) → spelled f m (fault_if places what o) ≡ fault_place_text f places what o
+if_spelled : (f : Frame) (m : Map) (places : ℕ) (what : PointFault) (o : Option Pt) → spelled_picture f m (fault_mark_if places what o) ≡ fault_place_text f places what o
 if_spelled f m places what None = refl
 if_spelled f m places what (Some c) = append-nil (fault_text f places what c)
 
-pub faults_spelled : (f : Frame) (m : Map) (places : ℕ) (faults : List FaultAt) → spelled f m (faults_from places faults) ≡ fault_texts f places faults
+pub faults_spelled : (f : Frame) (m : Map) (places : ℕ) (faults : List FaultAt) → spelled_picture f m (faults_from places faults) ≡ fault_texts f places faults
 faults_spelled f m places [] = refl
 faults_spelled f m places (a ∷ faults) =
-    flat_map-append (bytes_of f m) (fault_if places a.fault a.at) (faults_from places faults) ∙ ap (λ (l : List ℕ). l ++ spelled f m (faults_from places faults)) (if_spelled f m places a.fault a.at)
+    flat_map-append (bytes_of_element f m) (fault_mark_if places a.fault a.at) (faults_from places faults) ∙ ap (λ (l : List ℕ). l ++ spelled_picture f m (faults_from places faults)) (if_spelled f m places a.fault a.at)
     ∙ ap (λ (l : List ℕ). fault_place_text f places a.fault a.at ++ l) (faults_spelled f m places faults)
 
-pub rings_on : (f : Frame) (m : Map) (places : ℕ) (faults : List FaultAt) (a b : List ℕ) → b ≡ a ++ fault_texts f places faults → b ≡ a ++ spelled f m (faults_from places faults)
+pub rings_on : (f : Frame) (m : Map) (places : ℕ) (faults : List FaultAt) (a b : List ℕ) → b ≡ a ++ fault_texts f places faults → b ≡ a ++ spelled_picture f m (faults_from places faults)
 rings_on f m places faults a b made = made ∙ ap (λ (l : List ℕ). a ++ l) (sym (faults_spelled f m places faults))
 
-arrows_spelled : (f : Frame) (p : PlanParts) → IsPlan p → (places : ℕ) (arrows : List Arrow) → spelled f (map_of p) (arrows_from places arrows) ≡ arrow_texts f places p.points arrows
+arrows_spelled : (f : Frame) (p : PlanParts) → IsPlan p → (places : ℕ) (arrows : List Arrow) → spelled_picture f (map_of p) (arrows_from places arrows) ≡ arrow_texts f places p.points arrows
 arrows_spelled f p plan places arrows =
-    flat_map-map (bytes_of f (map_of p)) (λ (w : Arrow). Out places w) arrows ∙ ap (λ (points : List Pt). flat_map (λ (w : Arrow). arrow_text f places (corners_in points w)) arrows) (plan_points p plan)
+    flat_map-map (bytes_of_element f (map_of p)) (λ (w : Arrow). Out places w) arrows ∙ ap (λ (points : List Pt). flat_map (λ (w : Arrow). arrow_text f places (corners_in points w)) arrows) (plan_points p plan)
 
-pub arrows_on : (f : Frame) (p : PlanParts) (places : ℕ) (arrows : List Arrow) (a b : List ℕ) → IsPlan p → b ≡ a ++ arrow_texts f places p.points arrows → b ≡ a ++ spelled f (map_of p) (arrows_from places arrows)
+pub arrows_on : (f : Frame) (p : PlanParts) (places : ℕ) (arrows : List Arrow) (a b : List ℕ) → IsPlan p → b ≡ a ++ arrow_texts f places p.points arrows → b ≡ a ++ spelled_picture f (map_of p) (arrows_from places arrows)
 arrows_on f p places arrows a b plan made = made ∙ ap (λ (l : List ℕ). a ++ l) (sym (arrows_spelled f p plan places arrows))

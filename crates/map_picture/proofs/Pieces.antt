@@ -12,7 +12,7 @@ use Rattle.map_picture.specs.declared.faults.PointFault.{PointFault}
 use Rattle.map_picture.specs.declared.rings.Letter.{Letter}
 use Rattle.map_picture.specs.declared.sheet.Subject.{Subject}
 use Rattle.map_picture.specs.declared.rings.Letter.TheVariants as letter
-use Rattle.map_picture.specs.Picture.{NamedParts, Element, Head, Title, Style, Paper, Scale, Line, Fault, Out, Ring, Foot, arrows_from, entry_if, fault_if, faults_from, largest_of, line_elements, line_if, lines_from, pair_rings, picture_of, ring_at, ring_of, sheet_of}
+use Rattle.map_picture.specs.Picture.{NamedParts, Element, Head, Title, Style, Paper, Scale, Line, Fault, Out, Ring, Foot, arrows_from, entry_if, fault_mark_if, faults_from, largest_of, line_elements, line_if, lines_from, pair_rings, picture_of, ring_at, ring_of, sheet_of}
 use Rattle.map_picture.specs.Laws.{Has}
 
 -- ---- what holds of every line
@@ -58,13 +58,13 @@ module _ (P : Element → Type 0) (ring : (which : Letter) (sector : ℕ) (t : T
 -- ---- what holds of every ring round a point at fault
 
 module _ (P : Element → Type 0) (places : ℕ) (fault : (what : PointFault) (c : Pt) → P (Fault places what c)) where
-  all_if_fault : (what : PointFault) (o : Option Pt) → AllByRecursion P (fault_if places what o)
+  all_if_fault : (what : PointFault) (o : Option Pt) → AllByRecursion P (fault_mark_if places what o)
   all_if_fault what None = tt
   all_if_fault what (Some c) = (fault what c, tt)
 
   pub all_faults : (faults : List FaultAt) → AllByRecursion P (faults_from places faults)
   all_faults [] = tt
-  all_faults (a ∷ faults) = all_join P (fault_if places a.fault a.at) (faults_from places faults) (all_if_fault a.fault a.at) (all_faults faults)
+  all_faults (a ∷ faults) = all_join P (fault_mark_if places a.fault a.at) (faults_from places faults) (all_if_fault a.fault a.at) (all_faults faults)
 
 -- ---- what holds of every arrow
 

@@ -16,7 +16,7 @@ use Rattle.sight_names.specs.Ray.{IsCrossing, IsSightRay, SplitsLine, ray_value}
 use Rattle.sight_names.proofs.Portals.{scale_above}
 use Rattle.geom_exact.specs.Formulas.{AreOnTwoSides, side_value}
 use Rattle.geom_exact.proofs.SegmentLemmas.{IsWeighted, on}
-use Rattle.map_picture.specs.Frame.{across, down, frame_of}
+use Rattle.map_picture.specs.Frame.{place_across, place_down, frame_of_points}
 use Rattle.map_picture.specs.Crossings.{IsCutDown, IsSpotOf, crossing_spot}
 use Rattle.map_picture.specs.declared.sheet.Subject.TheVariants as subject
 use Rattle.map_picture.specs.Picture.{NamedParts, Sight, pair_faces, pair_rings, pair_tint, sight_between, sight_elements, sight_picture}
@@ -136,9 +136,9 @@ module _ (m : Map) (r : Ray) where
   two_sides l false h = inr h
 
   spot_of : (i : ℕ) (l : MapLine) → line_at m i ≡ Some l → AreOnTwoSides (side_value r l.first) (side_value r l.second) → (z : Point) → IsCrossing r l z
-      → IsSpotOf (frame_of (points_of m)) z (crossing_spot (frame_of (points_of m)) r l.first l.second)
+      → IsSpotOf (frame_of_points (points_of m)) z (crossing_spot (frame_of_points (points_of m)) r l.first l.second)
   spot_of i l at two z c =
-      let f = frame_of (points_of m) in
+      let f = frame_of_points (points_of m) in
       let ends = has_ends m i l at in
       let first = read_back (points_of m) l.first ends.0 in
       let second = read_back (points_of m) l.second ends.1 in
@@ -146,11 +146,11 @@ module _ (m : Map) (r : Ray) where
       let s = side_value r l.first in
       let t = side_value r l.second in
       record {
-        across = cut (z.x -ℤ f.left *ℤ pos z.d) s t z.d (across f l.first) (across f l.second) (scale_above z) two
-            (from_left z.x s t (pos z.d) f.left (pos (across f l.first)) (pos (across f l.second)) l.first.x l.second.x first.x second.x
+        across = cut (z.x -ℤ f.left *ℤ pos z.d) s t z.d (place_across f l.first) (place_across f l.second) (scale_above z) two
+            (from_left z.x s t (pos z.d) f.left (pos (place_across f l.first)) (pos (place_across f l.second)) l.first.x l.second.x first.x second.x
             (crossing_at r l.first l.second g.0 g.1 z g.2 c.1 z.x l.first.x l.second.x g.2.x));
-        down = cut (f.top *ℤ pos z.d -ℤ z.y) s t z.d (down f l.first) (down f l.second) (scale_above z) two
-            (from_top z.y s t (pos z.d) f.top (pos (down f l.first)) (pos (down f l.second)) l.first.y l.second.y first.y second.y
+        down = cut (f.top *ℤ pos z.d -ℤ z.y) s t z.d (place_down f l.first) (place_down f l.second) (scale_above z) two
+            (from_top z.y s t (pos z.d) f.top (pos (place_down f l.first)) (pos (place_down f l.second)) l.first.y l.second.y first.y second.y
             (crossing_at r l.first l.second g.0 g.1 z g.2 c.1 z.y l.first.y l.second.y g.2.y));
       }
 

@@ -27,7 +27,7 @@ use Rattle.map_picture.specs.declared.sheet.Subject.TheVariants as subject
 use Rattle.map_picture.specs.declared.tint.Tint.{Tint}
 use Rattle.map_picture.specs.declared.tint.Tint.TheVariants as tint
 use Rattle.map_picture.specs.declared.units.Short.{Short}
-use Rattle.map_picture.specs.Frame.{across, down, frame_of, sizes_of, width_of}
+use Rattle.map_picture.specs.Frame.{place_across, place_down, frame_of_points, sizes_of_frame, width_of}
 use Rattle.map_picture.specs.Scale.{bar_for}
 use Rattle.map_picture.specs.Crossings.{crossing_spot}
 use Rattle.map_picture.specs.Picture.{Element, Head, Title, Style, Paper, Scale, Face, Line, Entered, Stops, Sight, Marked, Fault, Out, Ring, Legend, Foot, heat_of}
@@ -49,8 +49,8 @@ head_text s = count_text (codes "<svg xmlns=\"http://www.w3.org/2000/svg\" viewB
 abbrev pub escaped_char : ℕ → List ℕ
 escaped_char c = if c == 38 then codes "&amp;" else if c == 60 then codes "&lt;" else c ∷ []
 
-abbrev pub escaped : List ℕ → List ℕ
-escaped text = flat_map escaped_char text
+abbrev pub escaped_text : List ℕ → List ℕ
+escaped_text text = flat_map escaped_char text
 
 unfoldable pub left_out_text : ℕ → List ℕ
 left_out_text left_out = count_text (codes ", ") left_out ++ codes " clashes left out"
@@ -68,7 +68,7 @@ subject_text (subject.Pair a b) = count_text (codes " pair ") a ++ count_text (c
 subject_text subject.Heat = codes " heat"
 
 unfoldable pub title_text : List ℕ → Subject → List ℕ
-title_text name about = codes "<title>" ++ escaped name ++ subject_text about ++ codes "</title>\n"
+title_text name about = codes "<title>" ++ escaped_text name ++ subject_text about ++ codes "</title>\n"
 
 -- The colours of faces differ in their grey values too, and the triangles that sight enters have edges of their own. What has no
 -- title lets the pointer through.
@@ -122,7 +122,7 @@ scale_text s b = count_text (codes "<path class=\"u\" d=\"M0 ") s.strip ++ count
 -- ---- points and ids
 
 unfoldable pub point_text : Frame → Pt → List ℕ
-point_text f p = decimal (across f p) ++ count_text (codes " ") (down f p)
+point_text f p = decimal (place_across f p) ++ count_text (codes " ") (place_down f p)
 
 -- to the point in a straight line, or with no line
 abbrev pub step_text : Frame → List ℕ → Pt → List ℕ
@@ -190,16 +190,16 @@ line_class true = codes "w"
 line_class false = codes "p"
 
 -- the sector that a side names; nothing for a side that names none
-abbrev pub side_words : List ℕ → Option ℕ → List ℕ
-side_words word None = []
-side_words word (Some sector) = count_text word sector
+abbrev pub sector_words : List ℕ → Option ℕ → List ℕ
+sector_words word None = []
+sector_words word (Some sector) = count_text word sector
 
 unfoldable pub ends_text : Frame → Pt → Pt → List ℕ
 ends_text f first second = step_text f (codes "M") first ++ step_text f (codes "L") second
 
 -- a line's number and the sectors of its sides as its title, which ends the path
 unfoldable pub line_title : ℕ → Option ℕ → Option ℕ → List ℕ
-line_title i right left = count_text (codes "\"><title>") i ++ side_words (codes " front ") right ++ side_words (codes " back ") left ++ codes "</title></path>\n"
+line_title i right left = count_text (codes "\"><title>") i ++ sector_words (codes " front ") right ++ sector_words (codes " back ") left ++ codes "</title></path>\n"
 
 unfoldable pub line_text : Frame → ℕ → MapLine → List ℕ
 line_text f i l = path_text (line_class l.solid) (line_id i) ++ ends_text f l.first l.second ++ line_title i l.right l.left
@@ -281,10 +281,10 @@ abbrev pub middle_of : ℕ → ℕ → ℕ → ℕ
 middle_of p q r = (p + q + r) / 3
 
 abbrev pub middle_across : Frame → Map → Triangle → ℕ
-middle_across f m t = middle_of (across f (place m t.p)) (across f (place m t.q)) (across f (place m t.r))
+middle_across f m t = middle_of (place_across f (place m t.p)) (place_across f (place m t.q)) (place_across f (place m t.r))
 
 abbrev pub middle_down : Frame → Map → Triangle → ℕ
-middle_down f m t = middle_of (down f (place m t.p)) (down f (place m t.q)) (down f (place m t.r))
+middle_down f m t = middle_of (place_down f (place m t.p)) (place_down f (place m t.q)) (place_down f (place m t.r))
 
 unfoldable pub circle_text : List ℕ → ℕ → ℕ → ℕ → List ℕ
 circle_text class_name x y radius = class_name ++ count_text (codes "\" cx=\"") x ++ count_text (codes "\" cy=\"") y ++ count_text (codes "\" r=\"") radius
@@ -299,7 +299,7 @@ unfoldable pub ring_title : List ℕ → ℕ → List ℕ
 ring_title word sector = codes "<g><title>" ++ word ++ count_text (codes ": sector ") sector ++ codes "</title>"
 
 abbrev pub ring_text : Frame → Map → Letter → ℕ → Triangle → List ℕ
-ring_text f m which sector t = ring_title (letter_text which) sector ++ ring_shape (letter_text which) (middle_across f m t) (middle_down f m t) (sizes_of f).margin
+ring_text f m which sector t = ring_title (letter_text which) sector ++ ring_shape (letter_text which) (middle_across f m t) (middle_down f m t) (sizes_of_frame f).margin
 
 -- ---- rings round points at fault
 
@@ -361,7 +361,7 @@ fault_radius margin point.Torn = margin
 fault_radius margin (point.Loose i) = margin / 2 + 1
 
 abbrev pub fault_text : Frame → ℕ → PointFault → Pt → List ℕ
-fault_text f places what c = fault_title places what c ++ fault_shape (across f c) (down f c) (fault_radius (sizes_of f).margin what)
+fault_text f places what c = fault_title places what c ++ fault_shape (place_across f c) (place_down f c) (fault_radius (sizes_of_frame f).margin what)
 
 -- .. if there is such a point
 abbrev pub fault_place_text : Frame → ℕ → PointFault → Option Pt → List ℕ
@@ -388,10 +388,10 @@ unfoldable pub whole_text : List ℕ → ℕ → ℕ → List ℕ
 whole_text word x y = count_text word x ++ count_text (codes " ") y
 
 abbrev pub base_text : Frame → List ℕ → Pt → Pt → List ℕ
-base_text f word p q = whole_text word (past_half (across f p) (across f q)) (past_half (down f p) (down f q))
+base_text f word p q = whole_text word (past_half (place_across f p) (place_across f q)) (past_half (place_down f p) (place_down f q))
 
 abbrev pub tip_text : Frame → Pt → Pt → List ℕ
-tip_text f p q = whole_text (codes "L") (half_way (across f p) (across f q)) (half_way (down f p) (down f q))
+tip_text f p q = whole_text (codes "L") (half_way (place_across f p) (place_across f q)) (half_way (place_down f p) (place_down f q))
 
 -- the base is the middle quarter of the edge that is crossed, the tip the middle of the next one
 unfoldable pub arrow_shape : Frame → Corners → List ℕ
@@ -431,27 +431,27 @@ legend_text s most = codes "<g class=\"n\">" ++ flat_map (swatch_text s most) (r
 
 -- ---- the whole
 
-abbrev pub bytes_of : Frame → Map → Element → List ℕ
-bytes_of f m Head = head_text (sizes_of f)
-bytes_of f m (Title name about) = title_text name about
-bytes_of f m Style = style_text (sizes_of f)
-bytes_of f m Paper = paper_text (sizes_of f)
-bytes_of f m (Scale places) = scale_text (sizes_of f) (bar_for (width_of f) places)
-bytes_of f m (Face t g names ts) = face_text f m t g names ts
-bytes_of f m (Line i l) = line_text f i l
-bytes_of f m (Entered sector us) = entered_text f m sector us
-bytes_of f m (Stops ss) = stops_text f m ss
-bytes_of f m (Sight r first last) = sight_text f r first last
-bytes_of f m (Marked marks) = marked_text f m marks
-bytes_of f m (Fault places what c) = fault_text f places what c
-bytes_of f m (Out places w) = arrow_text f places (corners_in (points_of m) w)
-bytes_of f m (Ring which sector t) = ring_text f m which sector t
-bytes_of f m (Legend most) = legend_text (sizes_of f) most
-bytes_of f m Foot = codes "</svg>\n"
+abbrev pub bytes_of_element : Frame → Map → Element → List ℕ
+bytes_of_element f m Head = head_text (sizes_of_frame f)
+bytes_of_element f m (Title name about) = title_text name about
+bytes_of_element f m Style = style_text (sizes_of_frame f)
+bytes_of_element f m Paper = paper_text (sizes_of_frame f)
+bytes_of_element f m (Scale places) = scale_text (sizes_of_frame f) (bar_for (width_of f) places)
+bytes_of_element f m (Face t g names ts) = face_text f m t g names ts
+bytes_of_element f m (Line i l) = line_text f i l
+bytes_of_element f m (Entered sector us) = entered_text f m sector us
+bytes_of_element f m (Stops ss) = stops_text f m ss
+bytes_of_element f m (Sight r first last) = sight_text f r first last
+bytes_of_element f m (Marked marks) = marked_text f m marks
+bytes_of_element f m (Fault places what c) = fault_text f places what c
+bytes_of_element f m (Out places w) = arrow_text f places (corners_in (points_of m) w)
+bytes_of_element f m (Ring which sector t) = ring_text f m which sector t
+bytes_of_element f m (Legend most) = legend_text (sizes_of_frame f) most
+bytes_of_element f m Foot = codes "</svg>\n"
 
-abbrev pub spelled : Frame → Map → List Element → List ℕ
-spelled f m elements = flat_map (bytes_of f m) elements
+abbrev pub spelled_picture : Frame → Map → List Element → List ℕ
+spelled_picture f m elements = flat_map (bytes_of_element f m) elements
 
 -- the elements in the frame of the map
 abbrev pub svg_of : Map → List Element → List ℕ
-svg_of m elements = spelled (frame_of (points_of m)) m elements
+svg_of m elements = spelled_picture (frame_of_points (points_of m)) m elements

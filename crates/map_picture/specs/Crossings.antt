@@ -6,7 +6,7 @@ use Rattle.sight_names.specs.Point.{Point}
 use Rattle.geom_exact.specs.Formulas.{side_value}
 use Rattle.map_picture.specs.declared.frame.Frame.{Frame}
 use Rattle.map_picture.specs.declared.crossings.Spot.{Spot}
-use Rattle.map_picture.specs.Frame.{across, down}
+use Rattle.map_picture.specs.Frame.{place_across, place_down}
 
 -- 1,000 times the mean of p with weight g and q with weight f, cut down
 abbrev pub thousandths_between : ℕ → ℕ → ℕ → ℕ → ℕ
@@ -15,8 +15,8 @@ thousandths_between f g p q = 1000 * (g * p + f * q) / (f + g)
 -- where the ray crosses the segment: the nearer an end is to the ray, the more it weighs
 abbrev pub crossing_spot : Frame → Ray → Pt → Pt → Spot
 crossing_spot f r p q = record {
-  across = thousandths_between (unsigned_abs (side_value r p)) (unsigned_abs (side_value r q)) (across f p) (across f q);
-  down = thousandths_between (unsigned_abs (side_value r p)) (unsigned_abs (side_value r q)) (down f p) (down f q);
+  across = thousandths_between (unsigned_abs (side_value r p)) (unsigned_abs (side_value r q)) (place_across f p) (place_across f q);
+  down = thousandths_between (unsigned_abs (side_value r p)) (unsigned_abs (side_value r q)) (place_down f p) (place_down f q);
 }
 
 -- t is 1,000 * n / d, cut down

@@ -19,9 +19,9 @@ widened_by f [] = f
 widened_by f (p ∷ ps) = widened_by (widened f p) ps
 
 -- the least frame that has all the points; where there is none, that of the origin
-abbrev pub frame_of : List Pt → Frame
-frame_of [] = record { left = pos 0; right = pos 0; bottom = pos 0; top = pos 0 }
-frame_of (p ∷ ps) = widened_by (frame_at p) ps
+abbrev pub frame_of_points : List Pt → Frame
+frame_of_points [] = record { left = pos 0; right = pos 0; bottom = pos 0; top = pos 0 }
+frame_of_points (p ∷ ps) = widened_by (frame_at p) ps
 
 abbrev pub width_of : Frame → ℕ
 width_of f = unsigned_abs (f.right -ℤ f.left)
@@ -49,12 +49,12 @@ sizes_for width height =
       strip = height + around;
     }
 
-abbrev pub sizes_of : Frame → Sizes
-sizes_of f = sizes_for (width_of f) (height_of f)
+abbrev pub sizes_of_frame : Frame → Sizes
+sizes_of_frame f = sizes_for (width_of f) (height_of f)
 
 -- a point's place in the picture: how far it is from the left edge, and how far below the upper one
-abbrev pub across : Frame → Pt → ℕ
-across f p = unsigned_abs (p.x -ℤ f.left)
+abbrev pub place_across : Frame → Pt → ℕ
+place_across f p = unsigned_abs (p.x -ℤ f.left)
 
-abbrev pub down : Frame → Pt → ℕ
-down f p = unsigned_abs (f.top -ℤ p.y)
+abbrev pub place_down : Frame → Pt → ℕ
+place_down f p = unsigned_abs (f.top -ℤ p.y)

@@ -22,7 +22,7 @@ use Rattle.map_picture.specs.declared.tint.Tint.{Tint}
 use Rattle.map_picture.specs.declared.tint.Tint.TheVariants as tint
 use Rattle.map_picture.specs.Bytes.{id_of}
 use Rattle.map_picture.specs.Crossings.{IsSpotOf, crossing_spot}
-use Rattle.map_picture.specs.Frame.{across, down, frame_of, height_of, width_of}
+use Rattle.map_picture.specs.Frame.{place_across, place_down, frame_of_points, height_of, width_of}
 use Rattle.map_picture.specs.Scale.{bar_for}
 use Rattle.map_picture.specs.Picture.{Element, NamedParts, Face, Line, Entered, Stops, Sight, Marked, Fault, Out, Ring, blind_picture, heat_picture, marked_picture, most_of, pair_picture, picture_of, plan_picture, ring_of, row_picture, sight_picture}
 
@@ -126,8 +126,8 @@ pub record ShowsRay (m : Map) (r : Ray) (picture : List Element) : Type 0 where
   pub is_last : line_at m r.last.line ≡ Some last
   pub has : Has picture (Sight r first last)
   pub once : (i j : ℕ) (p q : Ray) (k l n o : MapLine) → slice_get picture i ≡ Some (Sight p k l) → slice_get picture j ≡ Some (Sight q n o) → i ≡ j
-  pub start : (z : Point) → IsCrossing r first z → IsSpotOf (frame_of (points_of m)) z (crossing_spot (frame_of (points_of m)) r first.first first.second)
-  pub stop : (z : Point) → IsCrossing r last z → IsSpotOf (frame_of (points_of m)) z (crossing_spot (frame_of (points_of m)) r last.first last.second)
+  pub start : (z : Point) → IsCrossing r first z → IsSpotOf (frame_of_points (points_of m)) z (crossing_spot (frame_of_points (points_of m)) r first.first first.second)
+  pub stop : (z : Point) → IsCrossing r last z → IsSpotOf (frame_of_points (points_of m)) z (crossing_spot (frame_of_points (points_of m)) r last.first last.second)
 
 abbrev pub RayIsDrawn : Type 0
 RayIsDrawn = (name : NamedParts) (m : Map) (groups : List (List ℕ)) (ts : List Triangle) (labels : List (Option ℕ)) (a b f k : ℕ) (r : Ray) → IsSightRay m r f k → ShowsRay m r (sight_picture name m groups ts labels a b r)
@@ -236,10 +236,10 @@ ScaleIsTold = (width places : ℕ) → IsScaleOf width places (bar_for width pla
 
 -- The point's coordinates can be read back from its place, and the place is on the picture.
 pub record IsReadBack (f : Frame) (p : Pt) : Type 0 where
-  pub x : p.x ≡ f.left +ℤ pos (across f p)
-  pub y : p.y ≡ f.top -ℤ pos (down f p)
-  pub wide : across f p ≤ width_of f
-  pub high : down f p ≤ height_of f
+  pub x : p.x ≡ f.left +ℤ pos (place_across f p)
+  pub y : p.y ≡ f.top -ℤ pos (place_down f p)
+  pub wide : place_across f p ≤ width_of f
+  pub high : place_down f p ≤ height_of f
 
 abbrev pub PointsAreReadBack : Type 0
-PointsAreReadBack = (points : List Pt) (p : Pt) → Contains points p → IsReadBack (frame_of points) p
+PointsAreReadBack = (points : List Pt) (p : Pt) → Contains points p → IsReadBack (frame_of_points points) p

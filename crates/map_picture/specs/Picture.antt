@@ -147,12 +147,12 @@ abbrev pub plan_picture : NamedParts → Map → List (List ℕ) → List Triang
 plan_picture name m groups ts labels = picture_of name subject.Plan m (plan_faces groups ts labels) []
 
 -- what is at fault, if it is at one point
-abbrev pub fault_if : ℕ → PointFault → Option Pt → List Element
-fault_if places what None = []
-fault_if places what (Some c) = Fault places what c ∷ []
+abbrev pub fault_mark_if : ℕ → PointFault → Option Pt → List Element
+fault_mark_if places what None = []
+fault_mark_if places what (Some c) = Fault places what c ∷ []
 
 abbrev pub faults_from : ℕ → List FaultAt → List Element
-faults_from places faults = flat_map (λ (a : FaultAt). fault_if places a.fault a.at) faults
+faults_from places faults = flat_map (λ (a : FaultAt). fault_mark_if places a.fault a.at) faults
 
 abbrev pub arrows_from : ℕ → List Arrow → List Element
 arrows_from places arrows = map (λ (w : Arrow). Out places w) arrows
@@ -209,13 +209,13 @@ abbrev pub pair_picture : NamedParts → Map → List (List ℕ) → List Triang
 pair_picture name m groups ts labels a b = picture_of name (subject.Pair a b) m (pair_faces groups ts labels a b) (pair_rings m groups ts labels a b)
 
 -- the triangles with these numbers
-abbrev pub numbered : List Triangle → List ℕ → List Triangle
-numbered ts entered = map (λ k. slice_index_or ts k (record { p = 0; q = 0; r = 0 })) entered
+abbrev pub triangles_with_numbers : List Triangle → List ℕ → List Triangle
+triangles_with_numbers ts entered = map (λ k. slice_index_or ts k (record { p = 0; q = 0; r = 0 })) entered
 
 -- two sectors of which none sees the other: the triangles that sight out of this sector enters, and where it ends
 abbrev pub blind_picture : NamedParts → Map → List (List ℕ) → List Triangle → List (Option ℕ) → ℕ → ℕ → ℕ → List ℕ → List Stop → List Element
 blind_picture name m groups ts labels a b sector entered stops =
-    picture_of name (subject.Pair a b) m (pair_faces groups ts labels a b ++ Entered sector (numbered ts entered) ∷ []) (Stops stops ∷ [] ++ pair_rings m groups ts labels a b)
+    picture_of name (subject.Pair a b) m (pair_faces groups ts labels a b ++ Entered sector (triangles_with_numbers ts entered) ∷ []) (Stops stops ∷ [] ++ pair_rings m groups ts labels a b)
 
 -- the ray between two lines, if there are both
 abbrev pub sight_between : Ray → Option MapLine → Option MapLine → List Element

@@ -3,7 +3,7 @@
 ghost use Rattle.std.specs.Prelude.{◌≡◌, ◌<◌, ◌++◌, OnOk, length};
 ghost use Rattle.sight_names.specs.Map.{map_of};
 ghost use Rattle.sight_names.specs.Mesh.{IsTriangle};
-ghost use Rattle.map_picture.specs.Bytes.{face_id, face_title, names_text, path_text, spelled, tint_class, tint_words, triangle_text, triangles_text};
+ghost use Rattle.map_picture.specs.Bytes.{face_id, face_title, names_text, path_text, spelled_picture, tint_class, tint_words, triangle_text, triangles_text};
 ghost use Rattle.map_picture.specs.Chains.{AreChains};
 ghost use Rattle.map_picture.specs.Picture.{faces_from, labelled_with};
 
@@ -134,7 +134,7 @@ pub fn push_faces(
     requires one_each { length labels.now ≡ length mesh.now.triangles }
     requires tints { length faces.now.tints.items ≡ length groups.now }
     requires chains { AreChains labels.now (length groups.now) faces.now.chains }
-    ensures { OnOk result (out.new.items ≡ out.old.items ++ spelled frame (map_of plan.now) (faces_from mesh.now.triangles labels.now 0 faces.now.tints.items groups.now)) }
+    ensures { OnOk result (out.new.items ≡ out.old.items ++ spelled_picture frame (map_of plan.now) (faces_from mesh.now.triangles labels.now 0 faces.now.tints.items groups.now)) }
 {
     for (g, group) in groups.iter().enumerate() {
         let tint = faces.tints[g];

@@ -2,7 +2,7 @@
 
 ghost use Rattle.std.specs.Prelude.{◌≡◌, ◌^◌, ◌<◌, ◌≤◌};
 ghost use Rattle.std.specs.Int.{int_max, int_min};
-ghost use Rattle.map_picture.specs.Frame.{across as the_across, down as the_down, frame_of as the_frame_of, height_of, sizes_for as the_sizes_for, sizes_of as the_sizes_of, widened as widened_of, widened_by as the_widened_by, width_of};
+ghost use Rattle.map_picture.specs.Frame.{place_across as the_across, place_down as the_down, frame_of_points as the_frame_of, height_of, sizes_for as the_sizes_for, sizes_of_frame as the_sizes_of, widened as widened_of, widened_by as the_widened_by, width_of};
 
 use sight_names::Pt;
 

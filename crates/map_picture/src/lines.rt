@@ -3,7 +3,7 @@
 ghost use Rattle.std.specs.Prelude.{◌≡◌, ◌<◌, ◌++◌, IfSome, OnOk, length, option_map, slice_index_or};
 ghost use Rattle.sight_names.specs.Map.{looked_up, map_of, origin};
 ghost use Rattle.sight_names.specs.Plan.{IsPlanLine};
-ghost use Rattle.map_picture.specs.Bytes.{line_class, line_text, line_title, side_words, spelled};
+ghost use Rattle.map_picture.specs.Bytes.{line_class, line_text, line_title, sector_words, spelled_picture};
 ghost use Rattle.map_picture.specs.Picture.{entry_if, lines_from, line_elements};
 
 use crate::frame::Frame;
@@ -26,7 +26,7 @@ fn class_of(solid: bool) -> &'static str
 }
 
 fn push_side(out: &mut Vec<u8>, word: &str, side: Option<u16>) -> Result<(), AllocError>
-    ensures { OnOk result (out.new.items ≡ out.old.items ++ side_words word.now side) }
+    ensures { OnOk result (out.new.items ≡ out.old.items ++ sector_words word.now side) }
 {
     match side {
         Some(sector) => push_count(out, word, sector as u64),
@@ -76,7 +76,7 @@ fn push_entry(
     entry: &Option<Line>,
 ) -> Result<(), AllocError>
     requires { IfSome entry.now (IsPlanLine plan.now.sectors (length plan.now.points)) }
-    ensures { OnOk result (out.new.items ≡ out.old.items ++ spelled frame (map_of plan.now) (entry_if solid i (option_map (looked_up plan.now.points) entry.now))) }
+    ensures { OnOk result (out.new.items ≡ out.old.items ++ spelled_picture frame (map_of plan.now) (entry_if solid i (option_map (looked_up plan.now.points) entry.now))) }
 {
     match entry {
         Some(line) => {
@@ -97,7 +97,7 @@ fn push_lines_of(
     plan: &Plan,
     solid: bool,
 ) -> Result<(), AllocError>
-    ensures { OnOk result (out.new.items ≡ out.old.items ++ spelled frame (map_of plan.now) (lines_from solid 0 (map_of plan.now).lines)) }
+    ensures { OnOk result (out.new.items ≡ out.old.items ++ spelled_picture frame (map_of plan.now) (lines_from solid 0 (map_of plan.now).lines)) }
 {
     let lines = plan.lines();
     for (i, entry) in lines.iter().enumerate() {
@@ -108,7 +108,7 @@ fn push_lines_of(
 
 /// All lines.
 pub fn push_lines(out: &mut Vec<u8>, frame: Frame, plan: &Plan) -> Result<(), AllocError>
-    ensures { OnOk result (out.new.items ≡ out.old.items ++ spelled frame (map_of plan.now) (line_elements (map_of plan.now))) }
+    ensures { OnOk result (out.new.items ≡ out.old.items ++ spelled_picture frame (map_of plan.now) (line_elements (map_of plan.now))) }
 {
     push_lines_of(out, frame, plan, false)?;
     push_lines_of(out, frame, plan, true)

@@ -5,9 +5,9 @@ ghost use Rattle.sight_names.specs.Map.{looked_up, map_of};
 ghost use Rattle.sight_names.specs.Plan.{IsPlanLine};
 ghost use Rattle.sight_names.specs.Ray.{IsInRange};
 ghost use Rattle.geom_exact.specs.Formulas.{AreOnTwoSides, side_value};
-ghost use Rattle.map_picture.specs.Bytes.{coefficient_text, coefficients_text, entered_text, entered_title, ray_title, side_letter, side_text, sides_text, sight_text, spelled, spot_text, stop_text, stop_texts, stops_text, thousandths_text, triangles_text};
+ghost use Rattle.map_picture.specs.Bytes.{coefficient_text, coefficients_text, entered_text, entered_title, ray_title, side_letter, side_text, sides_text, sight_text, spelled_picture, spot_text, stop_text, stop_texts, stops_text, thousandths_text, triangles_text};
 ghost use Rattle.map_picture.specs.Crossings.{crossing_spot as the_crossing_spot};
-ghost use Rattle.map_picture.specs.Picture.{JoinsSectors, numbered, sight_elements};
+ghost use Rattle.map_picture.specs.Picture.{JoinsSectors, triangles_with_numbers, sight_elements};
 
 use crate::crossings::{Spot, crossing_spot};
 use crate::faces::push_triangle;
@@ -36,7 +36,7 @@ fn push_numbered(
 ) -> Result<(), AllocError>
     requires points { mesh.now.points ≡ length plan.now.points }
     requires entered { All (λ k. k < length mesh.now.triangles) entered.now }
-    ensures { OnOk result (out.new.items ≡ out.old.items ++ triangles_text frame (map_of plan.now) (numbered mesh.now.triangles entered.now)) }
+    ensures { OnOk result (out.new.items ≡ out.old.items ++ triangles_text frame (map_of plan.now) (triangles_with_numbers mesh.now.triangles entered.now)) }
 {
     let triangles = mesh.triangles();
     for k in entered {
@@ -66,7 +66,7 @@ pub fn push_entered(
 ) -> Result<(), AllocError>
     requires points { mesh.now.points ≡ length plan.now.points }
     requires entered { All (λ k. k < length mesh.now.triangles) entered.now }
-    ensures { OnOk result (out.new.items ≡ out.old.items ++ entered_text frame (map_of plan.now) sector (numbered mesh.now.triangles entered.now)) }
+    ensures { OnOk result (out.new.items ≡ out.old.items ++ entered_text frame (map_of plan.now) sector (triangles_with_numbers mesh.now.triangles entered.now)) }
 {
     push_named_path(out, "f", "open")?;
     push_numbered(out, frame, plan, mesh, entered)?;
@@ -233,7 +233,7 @@ fn push_ray(
 /// The ray from its first side's line to its last side's.
 pub fn push_sight(out: &mut Vec<u8>, frame: Frame, plan: &Plan, ray: &Ray) -> Result<(), AllocError>
     requires { JoinsSectors (map_of plan.now) ray.now }
-    ensures { OnOk result (out.new.items ≡ out.old.items ++ spelled frame (map_of plan.now) (sight_elements (map_of plan.now) ray.now)) }
+    ensures { OnOk result (out.new.items ≡ out.old.items ++ spelled_picture frame (map_of plan.now) (sight_elements (map_of plan.now) ray.now)) }
 {
     let Some(first) = plan.line(ray.first.line) else {
         return Ok(());

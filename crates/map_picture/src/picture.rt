@@ -2,7 +2,7 @@
 
 ghost use Rattle.std.specs.Prelude.{◌≡◌, ◌<◌, ◌++◌, All, IfOk, OnOk, length};
 ghost use Rattle.sight_names.specs.Map.{map_of};
-ghost use Rattle.map_picture.specs.Bytes.{arrow_texts, fault_texts, spelled, svg_of};
+ghost use Rattle.map_picture.specs.Bytes.{arrow_texts, fault_texts, spelled_picture, svg_of};
 ghost use Rattle.map_picture.specs.declared.sheet.Subject.TheVariants as subject;
 ghost use Rattle.map_picture.specs.Picture.{JoinsSectors, faces_from, pair_faces as the_pair_faces, pair_rings, sheet_of, blind_picture as the_blind_picture, heat_picture as the_heat_picture, marked_picture as the_marked_picture, pair_picture as the_pair_picture, plan_picture as the_plan_picture, row_picture as the_row_picture, sight_picture as the_sight_picture};
 
@@ -39,7 +39,7 @@ fn ground(
     requires points { mesh.now.points ≡ length plan.now.points }
     requires one_each { length labels.now ≡ length mesh.now.triangles }
     requires tints { length tints.items ≡ length groups.now }
-    ensures { IfOk result (λ v. v.items ≡ spelled frame (map_of plan.now) (sheet_of name.now about ++ faces_from mesh.now.triangles labels.now 0 tints.items groups.now)) }
+    ensures { IfOk result (λ v. v.items ≡ spelled_picture frame (map_of plan.now) (sheet_of name.now about ++ faces_from mesh.now.triangles labels.now 0 tints.items groups.now)) }
 {
     let _ = mesh.triangles();
     let chains = chains_of(alloc, labels.as_slice(), groups.len())?;
@@ -231,7 +231,7 @@ fn pair_ground(
 ) -> Result<Vec<u8>, Memory>
     requires points { mesh.now.points ≡ length plan.now.points }
     requires one_each { length labels.now ≡ length mesh.now.triangles }
-    ensures { IfOk result (λ v. v.items ≡ spelled frame (map_of plan.now) (sheet_of name.now (subject.Pair pair.a pair.b) ++ the_pair_faces groups.now mesh.now.triangles labels.now pair.a pair.b)) }
+    ensures { IfOk result (λ v. v.items ≡ spelled_picture frame (map_of plan.now) (sheet_of name.now (subject.Pair pair.a pair.b) ++ the_pair_faces groups.now mesh.now.triangles labels.now pair.a pair.b)) }
 {
     let about = Subject::Pair {
         a: pair.a,
@@ -253,7 +253,7 @@ fn push_rings(
 ) -> Result<(), AllocError>
     requires points { mesh.now.points ≡ length plan.now.points }
     requires one_each { length labels.now ≡ length mesh.now.triangles }
-    ensures { OnOk result (out.new.items ≡ out.old.items ++ spelled frame (map_of plan.now) (pair_rings (map_of plan.now) groups.now mesh.now.triangles labels.now pair.a pair.b)) }
+    ensures { OnOk result (out.new.items ≡ out.old.items ++ spelled_picture frame (map_of plan.now) (pair_rings (map_of plan.now) groups.now mesh.now.triangles labels.now pair.a pair.b)) }
 {
     let labels = labels.as_slice();
     push_ring_of(out, frame, plan, mesh, labels, groups, Letter::A, pair.a)?;

@@ -4,7 +4,7 @@ ghost use Rattle.std.specs.Prelude.{◌≡◌, ◌<◌, ◌≤◌, ◌^◌, ◌+
 ghost use Rattle.geom_exact.specs.Formulas.{turn_of};
 ghost use Rattle.sight_names.specs.Map.{map_of};
 ghost use Rattle.sight_names.specs.Mesh.{IsTriangle};
-ghost use Rattle.map_picture.specs.Bytes.{circle_text, letter_text, middle_across as the_middle_across, middle_down as the_middle_down, middle_of as the_middle_of, ring_shape, ring_text, ring_title, spelled};
+ghost use Rattle.map_picture.specs.Bytes.{circle_text, letter_text, middle_across as the_middle_across, middle_down as the_middle_down, middle_of as the_middle_of, ring_shape, ring_text, ring_title, spelled_picture};
 ghost use Rattle.map_picture.specs.Picture.{doubled_area as the_doubled_area, is_of as the_is_of, larger as the_larger, largest_of as the_largest_of, ring_at, ring_of};
 
 use crate::frame::{Frame, across, down, sizes_of};
@@ -214,7 +214,7 @@ fn push_ring_at(
     found: Option<Triangle>,
 ) -> Result<(), AllocError>
     requires { IfSome found (IsTriangle (length plan.now.points)) }
-    ensures { OnOk result (out.new.items ≡ out.old.items ++ spelled frame (map_of plan.now) (ring_at letter sector found)) }
+    ensures { OnOk result (out.new.items ≡ out.old.items ++ spelled_picture frame (map_of plan.now) (ring_at letter sector found)) }
 {
     match found {
         Some(t) => push_ring(out, frame, plan, letter, sector, t),
@@ -235,7 +235,7 @@ pub fn push_ring_of(
 ) -> Result<(), AllocError>
     requires points { mesh.now.points ≡ length plan.now.points }
     requires one_each { length labels.now ≡ length mesh.now.triangles }
-    ensures { OnOk result (out.new.items ≡ out.old.items ++ spelled frame (map_of plan.now) (ring_of (map_of plan.now) groups.now mesh.now.triangles labels.now letter sector)) }
+    ensures { OnOk result (out.new.items ≡ out.old.items ++ spelled_picture frame (map_of plan.now) (ring_of (map_of plan.now) groups.now mesh.now.triangles labels.now letter sector)) }
 {
     let found = largest_of(plan, mesh, labels, groups, sector);
     push_ring_at(out, frame, plan, letter, sector, found)

@@ -3,7 +3,7 @@
 ghost use Rattle.std.specs.Prelude.{◌≡◌, ◌≤◌, ◌<◌, ◌^◌, ◌++◌, ◌∷◌, [], OnOk, codes, replicate};
 ghost use Rattle.sight_names.specs.Map.{Map};
 ghost use Rattle.map_picture.specs.declared.frame.Frame.{Frame};
-ghost use Rattle.map_picture.specs.Bytes.{count_text, dark_text, head_text, left_out_text, left_out_words, letters_text, light_text, paper_text, pixels_text, scale_text, shades_text, size_text, spelled, style_text, subject_text, tenths_text, title_text, told_text, units_text};
+ghost use Rattle.map_picture.specs.Bytes.{count_text, dark_text, head_text, left_out_text, left_out_words, letters_text, light_text, paper_text, pixels_text, scale_text, shades_text, size_text, spelled_picture, style_text, subject_text, tenths_text, title_text, told_text, units_text};
 ghost use Rattle.map_picture.specs.Frame.{width_of};
 ghost use Rattle.map_picture.specs.Picture.{Foot, sheet_of};
 ghost use Rattle.map_picture.specs.Scale.{bar_for as the_bar_for};
@@ -274,7 +274,7 @@ pub fn push_sheet(
     name: &Named<'_>,
     about: Subject,
 ) -> Result<(), AllocError>
-    ensures { (m : Map) → OnOk result (out.new.items ≡ out.old.items ++ spelled frame m (sheet_of name.now about)) }
+    ensures { (m : Map) → OnOk result (out.new.items ≡ out.old.items ++ spelled_picture frame m (sheet_of name.now about)) }
 {
     let sizes = sizes_of(frame);
     push_head(out, sizes)?;
@@ -286,7 +286,7 @@ pub fn push_sheet(
 
 /// The end of a picture.
 pub fn push_foot(out: &mut Vec<u8>) -> Result<(), AllocError>
-    ensures { (f : Frame) (m : Map) → OnOk result (out.new.items ≡ out.old.items ++ spelled f m (Foot ∷ [])) }
+    ensures { (f : Frame) (m : Map) → OnOk result (out.new.items ≡ out.old.items ++ spelled_picture f m (Foot ∷ [])) }
 {
     push_text(out, "</svg>\n")
 }

@@ -2,7 +2,7 @@
 
 ghost use Rattle.std.specs.Prelude.{◌≡◌, ◌++◌, OnOk};
 ghost use Rattle.std.specs.Fmt.{decimal};
-ghost use Rattle.map_picture.specs.Bytes.{count_text, ends_text, escaped, escaped_char, path_text, point_text, step_text, written_text};
+ghost use Rattle.map_picture.specs.Bytes.{count_text, ends_text, escaped_text, escaped_char, path_text, point_text, step_text, written_text};
 
 use crate::frame::{Frame, across, down};
 use itoa::Buffer;
@@ -70,7 +70,7 @@ fn push_char(out: &mut Vec<u8>, c: u8) -> Result<(), AllocError>
 
 /// A text as it stands in SVG.
 pub fn push_escaped(out: &mut Vec<u8>, text: &[u8]) -> Result<(), AllocError>
-    ensures { OnOk result (out.new.items ≡ out.old.items ++ escaped text.now) }
+    ensures { OnOk result (out.new.items ≡ out.old.items ++ escaped_text text.now) }
 {
     for c in text {
         push_char(out, *c)?;

@@ -8,7 +8,7 @@ use Rattle.sight_names.specs.declared.names.Pt.{Pt}
 use Rattle.sight_names.specs.declared.names.Triangle.{Triangle}
 use Rattle.sight_names.specs.Point.{Point, point_of, SamePoint}
 use Rattle.sight_names.specs.Map.{Map, MapLine, line_at}
-use Rattle.sight_names.specs.Points.{Edge, points_of, place, number_of}
+use Rattle.sight_names.specs.Points.{Edge, points_of, place, point_number}
 use Rattle.sight_names.specs.Sound.{MeetAtEnds}
 use Rattle.sight_names.specs.Mesh.{IsTriangle, HasEdge, IsLineEdge, side_edge, InsideTriangle, IsCounterclockwise, IsPlainMesh}
 use Rattle.sight_names.specs.Sequence.{third_point}
@@ -129,9 +129,9 @@ fair_of p q s t h w f fw o1 o2 =
 -- ---- what the numbers of points are: to be shown once of the list of points
 pub record PointFacts (m : Map) : Type 0 where
   pub is_end : (k : ℕ) → k < length (points_of m) → (i : ℕ) × (l : MapLine) × (line_at m i ≡ Some l) × ((place m k ≡ l.first) ⊎ (place m k ≡ l.second))
-  pub number : (k : ℕ) → k < length (points_of m) → number_of m (place m k) ≡ k
-  pub first : (i : ℕ) (l : MapLine) → line_at m i ≡ Some l → (place m (number_of m l.first) ≡ l.first) × (number_of m l.first < length (points_of m))
-  pub second : (i : ℕ) (l : MapLine) → line_at m i ≡ Some l → (place m (number_of m l.second) ≡ l.second) × (number_of m l.second < length (points_of m))
+  pub number : (k : ℕ) → k < length (points_of m) → point_number m (place m k) ≡ k
+  pub first : (i : ℕ) (l : MapLine) → line_at m i ≡ Some l → (place m (point_number m l.first) ≡ l.first) × (point_number m l.first < length (points_of m))
+  pub second : (i : ℕ) (l : MapLine) → line_at m i ≡ Some l → (place m (point_number m l.second) ≡ l.second) × (point_number m l.second < length (points_of m))
   pub apart : (i : ℕ) (l : MapLine) → line_at m i ≡ Some l → Apart (vec (point_of l.first)) (vec (point_of l.second)) × Apart (vec (point_of l.second)) (vec (point_of l.first))
   pub dec_line : (e : Edge) → IsLineEdge m e ⊎ ¬ IsLineEdge m e
 
@@ -174,8 +174,8 @@ module _ (m : Map) (ts : List Triangle) (plain : IsPlainMesh m ts) (k : ℕ) (t 
       ab = turned_fair u v w h i l there;
       bc = turned_fair v w u (turn_on t u v w h) i l there;
       ca = turned_fair w u v (turn_on t v w u (turn_on t u v w h)) i l there;
-      first = turned_empty u v w h (number_of m l.first) (facts.first i l there).1 (whole l.first) (ap whole (facts.first i l there).0);
-      second = turned_empty u v w h (number_of m l.second) (facts.second i l there).1 (whole l.second) (ap whole (facts.second i l there).0);
+      first = turned_empty u v w h (point_number m l.first) (facts.first i l there).1 (whole l.first) (ap whole (facts.first i l there).0);
+      second = turned_empty u v w h (point_number m l.second) (facts.second i l there).1 (whole l.second) (ap whole (facts.second i l there).0);
       uv = (facts.apart i l there).0;
       vu = (facts.apart i l there).1;
     }

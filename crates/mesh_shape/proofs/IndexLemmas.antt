@@ -10,7 +10,7 @@ use Rattle.sight_names.specs.declared.names.Triangle.{Triangle}
 use Rattle.sight_names.specs.Points.{Edge}
 use Rattle.sight_names.specs.Mesh.{AreTriangles, IsTriangle, has_edge, triangle_at}
 use Rattle.mesh_shape.specs.declared.mesh.Next.{Next}
-use Rattle.mesh_shape.specs.Index.{has_corner, IsNextAround, IsNext, IsPut, IsIndexed, entry_at}
+use Rattle.mesh_shape.specs.Index.{has_corner, IsNextAround, IsNext, IsCornerPut, AreTrianglesIndexed, entry_at}
 use Rattle.math_base.proofs.Bools.{by_value}
 
 -- a triangle with the corner u is itself the next one
@@ -143,7 +143,7 @@ enter_next ts k first t is round =
     let r : t.r < length first = is.third in
     record { p = round t.p 0 (omega arith); q = round t.q 0 q; r = round t.r 0 r }
 
-pub enter_step : (ts : List Triangle) (m k : ℕ) (t : Triangle) (first new : List ℕ) (later : List Next) → m ≡ k + 1 → k < length ts → get_or ts k t ≡ t → IsTriangle (length first) t → length new ≡ length first → length later ≡ length ts → IsPut t k first new
+pub enter_step : (ts : List Triangle) (m k : ℕ) (t : Triangle) (first new : List ℕ) (later : List Next) → m ≡ k + 1 → k < length ts → get_or ts k t ≡ t → IsTriangle (length first) t → length new ≡ length first → length later ≡ length ts → IsCornerPut t k first new
     → IsEntered ts m first later → IsEntered ts k new (set later k (entry_of first t))
 enter_step ts m k t first new later e lt at is len len' put was = record {
   first_round = λ u d h. by_value (has_corner u t) (λ c. subst (λ (z : ℕ). IsNextAround ts u k z) (sym (put.here u d (omega arith) c)) (next_here ts u k t lt at c))
@@ -168,7 +168,7 @@ enter_step ts m k t first new later e lt at is len len' put was = record {
     later_one j d n le b other = subst (λ (z : Next). IsNext ts j (get_or ts j d) z) (sym (get_or-set_other later k j (entry_of first t) n other)) (was.next_round j d n (omega arith) b)
 
 -- from one triangle round a point to the next
-pub next_of : (points : ℕ) (ts : List Triangle) (first : List ℕ) (later : List Next) (k u : ℕ) (t : Triangle) (n : Next) → IsIndexed points ts first later → k < length ts → get_or ts k t ≡ t → get_or later k n ≡ n → has_corner u (get_or ts k t) ≡ true
+pub next_of : (points : ℕ) (ts : List Triangle) (first : List ℕ) (later : List Next) (k u : ℕ) (t : Triangle) (n : Next) → AreTrianglesIndexed points ts first later → k < length ts → get_or ts k t ≡ t → get_or later k n ≡ n → has_corner u (get_or ts k t) ≡ true
     → IsNextAround ts u (k + 1) (entry_at u t n)
 next_of points ts first later k u t n is lt at entry corner = entry_next ts k u t n (now (is.next_round k t n lt)) (ap (has_corner u) (sym at) ∙ corner)
   where
@@ -176,7 +176,7 @@ next_of points ts first later k u t n is lt at entry corner = entry_next ts k u 
     now h = subst (λ (z : Next). IsNext ts k t z) entry (subst (λ (z : Triangle). IsNext ts k z (get_or later k n)) at h)
 
 -- all triangles are entered
-pub enter_all : (ts : List Triangle) (first : List ℕ) (later : List Next) (points : ℕ) → length first ≡ points → length later ≡ length ts → length ts ≤ MOST_TRIANGLES → AreTriangles points ts → IsEntered ts 0 first later → IsIndexed points ts first later
+pub enter_all : (ts : List Triangle) (first : List ℕ) (later : List Next) (points : ℕ) → length first ≡ points → length later ≡ length ts → length ts ≤ MOST_TRIANGLES → AreTriangles points ts → IsEntered ts 0 first later → AreTrianglesIndexed points ts first later
 enter_all ts first later points e f few are was = record {
   triangles = are;
   few = few;

@@ -22,7 +22,7 @@ use Rattle.sight_names.proofs.PlanNumbers.{line_edge_of_plan, number_of_plan, pl
 use Rattle.geom_exact.specs.Formulas.{turn_of}
 use Rattle.geom_exact.proofs.SegmentLemmas.{turn_is_at}
 use Rattle.geom_exact.proofs.InsideLemmas.{inside_of_turns}
-use Rattle.mesh_shape.specs.Search.{IsEdgeOf, IsUnfitLine, IsUnfitSide, IsFitting, IsMetFairly, IsLineMetFairly, IsOutsideOf, AreBefore, AreBehind}
+use Rattle.mesh_shape.specs.Search.{IsEdgeOf, IsUnfitLine, IsUnfitSide, IsFitting, IsMetFairly, IsLineMetFairly, IsOutsideOf, AreBeforeLeast, AreBehind}
 use Rattle.mesh_shape.specs.Faults.{TurnsAt, IsNewAt, HasMate, HasMatesAt, FitsAt, IsFairAt, IsEmptyAt, IsFirstAgainst, IsFirstSideAgainst, IsFirstPairAgainst}
 use Rattle.math_base.proofs.Numbers.{below_or_above, same_or_below, below_or_not}
 use Rattle.mesh_base.proofs.GoodMesh.{found_at}
@@ -281,7 +281,7 @@ all_apart : (p : PlanParts) → IsPlan p → (t : Triangle) (l : Line)
     → ((e : Edge) → HasEdge t e → (z : Point) → IsCommon (place (map_of p) e.from) (place (map_of p) e.to) (place (map_of p) l.a) (place (map_of p) l.b) z → ⊥) → IsMetFairly (map_of p) t (looked_up p.points l)
 all_apart p is t l none = apart_fair (map_of p) t (looked_up p.points l) (λ e edge. same_ends p is l (λ (a b : Pt). (z : Point) → IsCommon (place (map_of p) e.from) (place (map_of p) e.to) a b z → ⊥) (none e edge))
 
-pub numbered_apart : (p : PlanParts) → IsPlan p → (t : Triangle) (l : Line) → IsTriangle (length p.points) t → IsPlanLine p.sectors (length p.points) l → AreBefore l.a l.b t.p t.q t.r ⊎ AreBehind l.a l.b t.p t.q t.r → IsMetFairly (map_of p) t (looked_up p.points l)
+pub numbered_apart : (p : PlanParts) → IsPlan p → (t : Triangle) (l : Line) → IsTriangle (length p.points) t → IsPlanLine p.sectors (length p.points) l → AreBeforeLeast l.a l.b t.p t.q t.r ⊎ AreBehind l.a l.b t.p t.q t.r → IsMetFairly (map_of p) t (looked_up p.points l)
 numbered_apart p is t l tri line (inl h) =
     let pq : t.p < t.q = tri.least in let pr : t.p < t.r = tri.least_too in let q : t.q < length p.points = tri.second in let r : t.r < length p.points = tri.third in
     all_apart p is t l (λ e edge. edge_cases t e (λ (f : Edge). (z : Point) → IsCommon (place (map_of p) f.from) (place (map_of p) f.to) (place (map_of p) l.a) (place (map_of p) l.b) z → ⊥)

@@ -4,7 +4,7 @@ use Rattle.sight_names.specs.declared.names.Triangle.{Triangle}
 use Rattle.sight_names.specs.Point.{point_of, turn_at}
 use Rattle.sight_names.specs.Map.{Map}
 use Rattle.sight_names.specs.Points.{Edge, points_of, place, reverse_of}
-use Rattle.sight_names.specs.Mesh.{HasEdge, IsKept, IsLineEdge}
+use Rattle.sight_names.specs.Mesh.{HasEdge, IsSegmentKept, IsLineEdge}
 
 -- some point of the map is strictly on the left of the edge
 abbrev pub HasLeft : Map → Edge → Type 0
@@ -16,7 +16,7 @@ HasTriangle ts e = (k : ℕ) × (t : Triangle) × (slice_get ts k ≡ Some t) ×
 
 -- each kept segment, in each of its two directions, has a triangle where the map has a point strictly on its left
 abbrev pub FillsHull : Map → List Edge → List Triangle → Type 0
-FillsHull m kept ts = (e : Edge) → IsKept kept e.from e.to → HasLeft m e → HasTriangle ts e
+FillsHull m kept ts = (e : Edge) → IsSegmentKept kept e.from e.to → HasLeft m e → HasTriangle ts e
 
 -- so have each line and each edge of a triangle, in each of the two directions
 pub record FillsSides (m : Map) (ts : List Triangle) : Type 0 where

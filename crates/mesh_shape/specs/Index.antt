@@ -27,12 +27,12 @@ abbrev pub entry_at : ℕ → Triangle → Next → ℕ
 entry_at u t n = if t.p == u then n.p else if t.q == u then n.q else n.r
 
 -- each corner's entry is k, and the others stay
-pub record IsPut (t : Triangle) (k : ℕ) (old new : List ℕ) : Type 0 where
+pub record IsCornerPut (t : Triangle) (k : ℕ) (old new : List ℕ) : Type 0 where
   pub here : (u d : ℕ) → u < length old → has_corner u t ≡ true → slice_index_or new u d ≡ k
   pub others : (u d : ℕ) → has_corner u t ≡ false → slice_index_or new u d ≡ slice_index_or old u d
 
 -- triangles between so many points, with the first triangle round each point, and the next ones
-pub record IsIndexed (points : ℕ) (ts : List Triangle) (first : List ℕ) (later : List Next) : Type 0 where
+pub record AreTrianglesIndexed (points : ℕ) (ts : List Triangle) (first : List ℕ) (later : List Next) : Type 0 where
   pub triangles : AreTriangles points ts
   pub few : length ts ≤ MOST_TRIANGLES
   pub each_point : length first ≡ points

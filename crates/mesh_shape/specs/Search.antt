@@ -51,8 +51,8 @@ pub record IsBand (m : Map) (t : Triangle) (b : Span) : Type 0 where
   pub high_r : (place m t.r).y ≤ℤ b.high
 
 -- both a and b are before p, the least of p, q and r
-abbrev pub AreBefore : ℕ → ℕ → ℕ → ℕ → ℕ → Type 0
-AreBefore a b p q r = (a < p) × (b < p)
+abbrev pub AreBeforeLeast : ℕ → ℕ → ℕ → ℕ → ℕ → Type 0
+AreBeforeLeast a b p q r = (a < p) × (b < p)
 
 -- both a and b are behind p, q and r
 abbrev pub AreBehind : ℕ → ℕ → ℕ → ℕ → ℕ → Type 0

@@ -1,7 +1,7 @@
 //! The triangles of a mesh, with an index that finds the triangle at a directed edge by a short search.
 
 ghost use Rattle.std.specs.Prelude.{◌≡◌, ◌<◌, ◌≤◌, IfOk, vec_len, length, EachIndex, slice_index};
-ghost use Rattle.mesh_shape.specs.Index.{IsIndexed, IsPut, entry_at};
+ghost use Rattle.mesh_shape.specs.Index.{AreTrianglesIndexed, IsCornerPut, entry_at};
 ghost use Rattle.sight_names.specs.Mesh.{AreTriangles, IsTriangle, has_edge as has_edge_of, triangle_at as triangle_of};
 ghost use Rattle.sight_names.specs.Sequence.{apex as apex_of, third_point as third_of};
 
@@ -28,13 +28,13 @@ pub struct Mesh {
 
 impl Model for Mesh {
     ghost use Rattle.mesh_shape.specs.Shape.{MeshParts};
-    ghost use Rattle.mesh_shape.specs.Index.{IsIndexed};
+    ghost use Rattle.mesh_shape.specs.Index.{AreTrianglesIndexed};
 
     ghost Value = { MeshParts };
 
     ghost view = { λ m. record { points = m.points; triangles = m.triangles.items } };
 
-    ghost invariant = { λ m. IsIndexed m.points m.triangles.items m.first.items m.later.items };
+    ghost invariant = { λ m. AreTrianglesIndexed m.points m.triangles.items m.first.items m.later.items };
 }
 
 /// Whether the triangle has the directed edge from `u` to `v`.
@@ -73,7 +73,7 @@ fn next_around(t: Triangle, next: Next, u: u16) -> u16
 /// Writes `k` at each corner of the triangle.
 fn put(first: &mut [u16], t: Triangle, k: u16)
     requires triangle { IsTriangle (length first.old) t }
-    ensures { IsPut t k first.old first.new }
+    ensures { IsCornerPut t k first.old first.new }
 {
     first[t.p as usize] = k;
     first[t.q as usize] = k;
@@ -86,7 +86,7 @@ fn index(triangles: &[Triangle], first: &mut [u16], later: &mut [Next])
     requires few { length triangles.now ≤ MOST_TRIANGLES }
     requires each_triangle { length later.old ≡ length triangles.now }
     requires empty { EachIndex first.old (λ u. slice_index first.old u ≡ length triangles.now) }
-    ensures { IsIndexed (length first.old) triangles.now first.new later.new }
+    ensures { AreTrianglesIndexed (length first.old) triangles.now first.new later.new }
 {
     let mut k = triangles.len();
     while k > 0 {

@@ -11,7 +11,7 @@ ghost use Rattle.sight_names.specs.Points.{points_of};
 ghost use Rattle.sight_names.specs.Mesh.{AreTriangles, IsTriangle, IsCounterclockwise, IsLineEdge, MeetsFairly, triangle_at};
 ghost use Rattle.geom_exact.specs.LineSpans.Spans.{IsSpanIn, AreSpans, AreSkips};
 ghost use Rattle.mesh_shape.specs.Faults.{TurnsAt, IsNewAt, HasMate, HasMatesAt, FitsAt, IsFairAt, IsEmptyAt, IsMeshVerdict};
-ghost use Rattle.mesh_shape.specs.Search.{IsBand, IsSearch, IsSideSearch, IsPairSearch, IsFitting, IsEdgeOf, IsUnfitLine, IsUnfitSide, IsMetFairly, IsLineMetFairly, IsOutsideOf, AreBefore, AreBehind};
+ghost use Rattle.mesh_shape.specs.Search.{IsBand, IsSearch, IsSideSearch, IsPairSearch, IsFitting, IsEdgeOf, IsUnfitLine, IsUnfitSide, IsMetFairly, IsLineMetFairly, IsOutsideOf, AreBeforeLeast, AreBehind};
 
 use crate::chains::{Chains, chains_of};
 use crate::labels::Labels;
@@ -329,7 +329,7 @@ fn meets_fairly(plan: &Plan, line: Line, u: u16, v: u16) -> bool
 
 /// Whether all numbers of the line's ends are before the triangle's, or all are behind them.
 fn is_numbered_apart(line: Line, t: Triangle) -> bool
-    ensures { IsTrue result ↔ (AreBefore line.a line.b t.p t.q t.r ⊎ AreBehind line.a line.b t.p t.q t.r) }
+    ensures { IsTrue result ↔ (AreBeforeLeast line.a line.b t.p t.q t.r ⊎ AreBehind line.a line.b t.p t.q t.r) }
 {
     (line.a < t.p && line.b < t.p)
         || (t.p < line.a

@@ -12,10 +12,10 @@ use Rattle.order_words.specs.declared.order.Order.TheVariants as order
 use Rattle.order_words.specs.declared.order.View.{View}
 use Rattle.order_words.specs.declared.order.View.TheVariants as view
 use Rattle.order_words.specs.declared.words.BuildChoices.{BuildChoices}
-use Rattle.order_words.specs.Values.{◌>>=◌, is_file, is_map, upper, ray_of, pair_of, sector_of, rooms_of}
+use Rattle.order_words.specs.Values.{◌>>=◌, is_file, is_map, upper, ray_of, pair_in_words, sector_in_word, rooms_of}
 use Rattle.order_words.specs.Command.{refusals_of, rows_in}
 use Rattle.order_words.specs.Laws.{AsksWithoutBound, GivesNoBudget, bound_of}
-use Rattle.order_words.specs.Words.{is_drawing, order_of_verb, spelled_as, takes_json, whole_view, Said, said_with, is_given, is_plain, has_bound_alone, given_bound, given_method, given_workers, source_of, zero_of, ray_order_of, audit_of, trace_of, check_of, need_of, sound_with, sound_of, why_within, why_of, view_of, draw_with, choices_of, build_of, all_order_of, may_be_one, verify_with, given_file, given_names, has_names_alone, maps_with, maps_of, grid_of, plain_order_of, order_said, order_in_rows, unless_refused, order_of, has_report_alone, audit_with}
+use Rattle.order_words.specs.Words.{is_drawing, order_of_verb, spelled_as, takes_json, whole_view, WordsSaid, said_with, is_given, is_plain, has_bound_alone, given_bound, given_method, given_workers, wad_source, zero_of, ray_order_of, audit_of, trace_of, check_of, need_of, sound_with, sound_of, why_within, why_order, view_of, draw_with, choices_of, build_of, all_order_of, may_be_one, verify_with, given_file, given_names, has_names_alone, maps_with, maps_order, grid_of, plain_order_of, order_said, order_in_rows, unless_refused, order_of, has_report_alone, audit_with}
 
 -- what comes of a choice, of a value that is taken on, and of one that is turned into another
 if_some : {A : Type 0} (P : A → Type 0) (b : Bool) (x y : Option A) → IfSome x P → IfSome y P → IfSome (if b then x else y) P
@@ -65,14 +65,14 @@ need_asks large rest = tt
 
 sound_with_asks : (large : Bool) (wad name : Text) (sectors : List Text) → IfSome (sound_with large wad name sectors) Unbounded
 sound_with_asks large wad name [] = tt
-sound_with_asks large wad name (first ∷ second ∷ []) = map_some Unbounded (pair_of first second) _ (any_some _ (pair_of first second) (λ pair. tt))
+sound_with_asks large wad name (first ∷ second ∷ []) = map_some Unbounded (pair_in_words first second) _ (any_some _ (pair_in_words first second) (λ pair. tt))
 sound_with_asks large wad name sectors = tt
 
 sound_asks : (large : Bool) (rest : List Text) → IfSome (sound_of large rest) Unbounded
 sound_asks large (wad ∷ name ∷ sectors) = if_some Unbounded (is_file wad && is_map name) _ _ (sound_with_asks large wad name sectors) tt
 sound_asks large rest = tt
 
-plain_asks : (s : Said) → IfSome (plain_order_of s) Unbounded
+plain_asks : (s : WordsSaid) → IfSome (plain_order_of s) Unbounded
 plain_asks s =
     if_some Unbounded (bytes_eq s.verb (codes "zero")) _ _ (zero_asks (is_given s.large) s.rest)
     (if_some Unbounded (bytes_eq s.verb (codes "ray")) _ _ (ray_asks (is_given s.large) s.rest)
@@ -97,7 +97,7 @@ maps_ask : (large : Bool) (spelled : Spelling) (rest : List Text) (only : Option
 maps_ask large spelled (wad ∷ []) only report = if_some Unbounded (is_file wad) _ _ tt tt
 maps_ask large spelled rest only report = tt
 
-grid_asks : (s : Said) (rest : List Text) → IfSome (grid_of s rest) Unbounded
+grid_asks : (s : WordsSaid) (rest : List Text) → IfSome (grid_of s rest) Unbounded
 grid_asks s (word ∷ []) =
     if_some Unbounded (is_some s.cert || is_some s.report || is_some s.only || is_some s.refused || is_given s.large || is_drawing s) _ _ tt
     (then_some Unbounded (rooms_of word) _ (λ n. then_some Unbounded (given_workers 4 s.workers) _ (λ workers. then_some Unbounded (given_method (is_given s.exact) s.budget) _ (λ method. tt))))
@@ -105,7 +105,7 @@ grid_asks s rest = tt
 
 -- orders that do
 why_asks : (large : Bool) (rest : List Text) → IfSome (why_within large rest Full) Unbounded
-why_asks large (wad ∷ name ∷ first ∷ second ∷ []) = if_some Unbounded (is_file wad && is_map name) _ _ (map_some Unbounded (pair_of first second) _ (any_some _ (pair_of first second) (λ pair. refl))) tt
+why_asks large (wad ∷ name ∷ first ∷ second ∷ []) = if_some Unbounded (is_file wad && is_map name) _ _ (map_some Unbounded (pair_in_words first second) _ (any_some _ (pair_in_words first second) (λ pair. refl))) tt
 why_asks large rest = tt
 
 plan_asks : (P : View → Type 0) → P view.Plan → P view.Faults → P view.Heat → (faults heat : Bool) → IfSome (whole_view faults heat) P
@@ -116,25 +116,25 @@ plan_asks P plan faulty hot false false = plan
 
 view_asks : (P : View → Type 0) → P view.Plan → P view.Faults → P view.Heat → ((k : ℕ) → P (view.Row k)) → ((pair : Pair) → P (view.Pair pair Full)) → (faults heat exact : Bool) (sectors : List Text) → IfSome (view_of faults heat exact None sectors) P
 view_asks P plan faulty hot row two faults heat exact [] = if_some P (not exact && true) _ _ (plan_asks P plan faulty hot faults heat) tt
-view_asks P plan faulty hot row two faults heat exact (first ∷ []) = if_some P (not faults && not heat && not exact && true) _ _ (map_some P (sector_of first) _ (any_some _ (sector_of first) row)) tt
-view_asks P plan faulty hot row two faults heat exact (first ∷ second ∷ []) = if_some P (not faults && not heat) _ _ (then_some P (pair_of first second) _ two) tt
+view_asks P plan faulty hot row two faults heat exact (first ∷ []) = if_some P (not faults && not heat && not exact && true) _ _ (map_some P (sector_in_word first) _ (any_some _ (sector_in_word first) row)) tt
+view_asks P plan faulty hot row two faults heat exact (first ∷ second ∷ []) = if_some P (not faults && not heat) _ _ (then_some P (pair_in_words first second) _ two) tt
 view_asks P plan faulty hot row two faults heat exact sectors = tt
 
-two_ask : (s : Said) → s.budget ≡ None → IfSome (why_of s) Unbounded
+two_ask : (s : WordsSaid) → s.budget ≡ None → IfSome (why_order s) Unbounded
 two_ask s none =
     if_some Unbounded (has_bound_alone s) _ _
     (subst (λ (budget : Option Text). IfSome (given_bound (is_given s.exact) budget >>= why_within (is_given s.large) s.rest) Unbounded) (sym none) (why_asks (is_given s.large) s.rest)) tt
 
-draw_asks : (s : Said) → s.budget ≡ None → (rest : List Text) → IfSome (draw_with s rest) Unbounded
+draw_asks : (s : WordsSaid) → s.budget ≡ None → (rest : List Text) → IfSome (draw_with s rest) Unbounded
 draw_asks s none (wad ∷ name ∷ out ∷ sectors) =
-    let P : View → Type 0 = λ view. Unbounded (order.Draw (source_of (is_given s.large) wad) (upper name) out view) in
+    let P : View → Type 0 = λ view. Unbounded (order.Draw (wad_source (is_given s.large) wad) (upper name) out view) in
     if_some Unbounded (is_file wad && is_map name && is_file out) _ _
     (map_some Unbounded (view_of (is_given s.faults) (is_given s.heat) (is_given s.exact) s.budget sectors) _
     (subst (λ (budget : Option Text). IfSome (view_of (is_given s.faults) (is_given s.heat) (is_given s.exact) budget sectors) P) (sym none)
     (view_asks P tt tt tt (λ k. tt) (λ pair. refl) (is_given s.faults) (is_given s.heat) (is_given s.exact) sectors))) tt
 draw_asks s none rest = tt
 
-verb_asks : (s : Said) → s.budget ≡ None → IfSome (order_of_verb s) Unbounded
+verb_asks : (s : WordsSaid) → s.budget ≡ None → IfSome (order_of_verb s) Unbounded
 unfolding order_of_verb
 verb_asks s none =
     if_some Unbounded (bytes_eq s.verb (codes "grid")) _ _ (grid_asks s s.rest)
@@ -150,7 +150,7 @@ verb_asks s none =
     (if_some Unbounded (bytes_eq s.verb (codes "audit")) _ _ (if_some Unbounded (has_report_alone s) _ _ (then_some Unbounded (given_file s.report) _ (audit_asks (is_given s.large) (spelled_as (is_given s.json)) s.rest)) tt)
     (if_some Unbounded (is_plain s) _ _ (plain_asks s) tt))))))))))
 
-said_asks : (s : Said) → s.budget ≡ None → IfSome (order_said s) Unbounded
+said_asks : (s : WordsSaid) → s.budget ≡ None → IfSome (order_said s) Unbounded
 unfolding order_said
 said_asks s none = if_some Unbounded (is_given s.json && not (takes_json s)) _ _ tt (verb_asks s none)
 

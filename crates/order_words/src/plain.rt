@@ -1,7 +1,7 @@
 //! Orders of words alone: verbs that take no option with a value.
 
 ghost use Rattle.std.specs.Prelude.{◌≡◌, map, IfOk};
-ghost use Rattle.order_words.specs.Words.{Makes, check_of, need_of, ray_named, ray_order_of, sound_named, sound_of, sound_with, source_of, trace_named, trace_of, zero_of};
+ghost use Rattle.order_words.specs.Words.{MakesOrder, check_of, need_of, ray_named, ray_order_of, sound_named, sound_of, sound_with, wad_source, trace_named, trace_of, zero_of};
 ghost use Rattle.order_words.specs.Values.{upper};
 
 use crate::order::{Order, Source, Text};
@@ -26,7 +26,7 @@ pub fn upper_text(alloc: Global, word: &str) -> Result<Text, AllocError>
 
 /// The WAD of that name, read by the larger limits or by the usual ones.
 pub fn source(alloc: Global, large: bool, wad: &str) -> Result<Source, AllocError>
-    ensures { IfOk result (λ s. s ≡ source_of large wad.now) }
+    ensures { IfOk result (λ s. s ≡ wad_source large wad.now) }
 {
     Ok(Source {
         file: text(alloc, wad)?,
@@ -41,7 +41,7 @@ pub fn wad_and_file(
     wad: &str,
     file: &str,
 ) -> Result<(Source, Text), AllocError>
-    ensures wad { IfOk result (λ m. m.0 ≡ source_of large wad.now) }
+    ensures wad { IfOk result (λ m. m.0 ≡ wad_source large wad.now) }
     ensures file { IfOk result (λ m. m.1 ≡ file.now) }
 {
     let wad = source(alloc, large, wad)?;
@@ -66,7 +66,7 @@ pub fn map_in(
     wad: &str,
     name: &str,
 ) -> Result<(Source, Text), AllocError>
-    ensures wad { IfOk result (λ m. m.0 ≡ source_of large wad.now) }
+    ensures wad { IfOk result (λ m. m.0 ≡ wad_source large wad.now) }
     ensures map { IfOk result (λ m. m.1 ≡ upper name.now) }
 {
     let wad = source(alloc, large, wad)?;
@@ -84,7 +84,7 @@ pub fn named(
     name: &str,
     file: &str,
 ) -> Result<Subject, AllocError>
-    ensures wad { IfOk result (λ n. n.wad ≡ source_of large wad.now) }
+    ensures wad { IfOk result (λ n. n.wad ≡ wad_source large wad.now) }
     ensures map { IfOk result (λ n. n.map ≡ upper name.now) }
     ensures file { IfOk result (λ n. n.file ≡ file.now) }
 {
@@ -97,7 +97,7 @@ pub fn named(
 
 /// A table with every bit clear, of a map into a file.
 pub fn zero(alloc: Global, large: bool, rest: &[&str]) -> Result<Order, OrderFault>
-    ensures { Makes (zero_of large (map (λ s. s.now) rest.now)) result }
+    ensures { MakesOrder (zero_of large (map (λ s. s.now) rest.now)) result }
 {
     match rest {
         [wad, name, out] if may_name_file(wad) && may_name_map(name) && may_name_file(out) => {
@@ -119,7 +119,7 @@ fn sight_named(
     name: &str,
     word: &str,
 ) -> Result<Order, OrderFault>
-    ensures { Makes (ray_named large wad.now name.now word.now) result }
+    ensures { MakesOrder (ray_named large wad.now name.now word.now) result }
 {
     match ray(word) {
         Some(ray) => {
@@ -132,7 +132,7 @@ fn sight_named(
 
 /// A ray of a map.
 pub fn sight(alloc: Global, large: bool, rest: &[&str]) -> Result<Order, OrderFault>
-    ensures { Makes (ray_order_of large (map (λ s. s.now) rest.now)) result }
+    ensures { MakesOrder (ray_order_of large (map (λ s. s.now) rest.now)) result }
 {
     match rest {
         [wad, name, word] if may_name_file(wad) && may_name_map(name) => {
@@ -149,7 +149,7 @@ fn trace_named(
     name: &str,
     word: &str,
 ) -> Result<Order, OrderFault>
-    ensures { Makes (trace_named large wad.now name.now word.now) result }
+    ensures { MakesOrder (trace_named large wad.now name.now word.now) result }
 {
     match ray(word) {
         Some(ray) => {
@@ -162,7 +162,7 @@ fn trace_named(
 
 /// The way along a ray of a map.
 pub fn trace(alloc: Global, large: bool, rest: &[&str]) -> Result<Order, OrderFault>
-    ensures { Makes (trace_of large (map (λ s. s.now) rest.now)) result }
+    ensures { MakesOrder (trace_of large (map (λ s. s.now) rest.now)) result }
 {
     match rest {
         [wad, name, word] if may_name_file(wad) && may_name_map(name) => {
@@ -179,7 +179,7 @@ pub fn check(
     spelling: Spelling,
     rest: &[&str],
 ) -> Result<Order, OrderFault>
-    ensures { Makes (check_of large spelling (map (λ s. s.now) rest.now)) result }
+    ensures { MakesOrder (check_of large spelling (map (λ s. s.now) rest.now)) result }
 {
     match rest {
         [wad, name, cert] if may_name_file(wad) && may_name_map(name) && may_name_file(cert) => {
@@ -197,7 +197,7 @@ pub fn check(
 
 /// The budget that a map needs.
 pub fn need(alloc: Global, large: bool, rest: &[&str]) -> Result<Order, OrderFault>
-    ensures { Makes (need_of large (map (λ s. s.now) rest.now)) result }
+    ensures { MakesOrder (need_of large (map (λ s. s.now) rest.now)) result }
 {
     match rest {
         [wad, name] if may_name_file(wad) && may_name_map(name) => {
@@ -216,7 +216,7 @@ fn sound_named(
     first: &str,
     second: &str,
 ) -> Result<Order, OrderFault>
-    ensures { Makes (sound_named large wad.now name.now first.now second.now) result }
+    ensures { MakesOrder (sound_named large wad.now name.now first.now second.now) result }
 {
     match pair(first, second) {
         Some(pair) => {
@@ -239,7 +239,7 @@ fn sound_with(
     name: &str,
     sectors: &[&str],
 ) -> Result<Order, OrderFault>
-    ensures { Makes (sound_with large wad.now name.now (map (λ s. s.now) sectors.now)) result }
+    ensures { MakesOrder (sound_with large wad.now name.now (map (λ s. s.now) sectors.now)) result }
 {
     match sectors {
         [] => {
@@ -257,7 +257,7 @@ fn sound_with(
 
 /// The noise of a map, with no sectors or with two.
 pub fn sound(alloc: Global, large: bool, rest: &[&str]) -> Result<Order, OrderFault>
-    ensures { Makes (sound_of large (map (λ s. s.now) rest.now)) result }
+    ensures { MakesOrder (sound_of large (map (λ s. s.now) rest.now)) result }
 {
     match rest {
         [wad, name, sectors @ ..] if may_name_file(wad) && may_name_map(name) => {

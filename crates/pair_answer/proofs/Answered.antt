@@ -18,8 +18,8 @@ use Rattle.face_groups.proofs.GroupsBase.SamePoints.{mesh_alike}
 use Rattle.group_job.specs.Built.{WalkedMap}
 use Rattle.pair_answer.specs.declared.answer.PairAnswer.{PairAnswer}
 use Rattle.pair_answer.specs.declared.answer.PairAnswer.TheVariants as answer
-use Rattle.pair_answer.specs.Answer.{AnswersPair, AreGroupsOver, IsAnswerFor}
-use Rattle.pair_answer.specs.Between.{AreApart, IsBetween}
+use Rattle.pair_answer.specs.Answer.{AnswersPair, AreGroupsOverShape, IsAnswerFor}
+use Rattle.pair_answer.specs.Between.{AreApart, IsAnswerBetween}
 use Rattle.pair_answer.specs.Numbers.{AreBelow}
 use Rattle.pair_answer.specs.Places.{ArePlacesOf, ShareOne}
 use Rattle.pair_answer.proofs.Sectors.{answers, good, sound}
@@ -30,7 +30,7 @@ some_budget m ts mesh (AskOf n) = (Of n, refl)
 some_budget m ts mesh AskFull = (Full, refl)
 some_budget m ts mesh Enough = (Of (enough_of m ts), (ts, mesh, refl))
 
-module _ (p : PlanParts) (plan : IsPlan p) (shape : MeshParts) (g : Grouped) (over : AreGroupsOver p shape g) (ask : Ask) where
+module _ (p : PlanParts) (plan : IsPlan p) (shape : MeshParts) (g : Grouped) (over : AreGroupsOverShape p shape g) (ask : Ask) where
   pub own_mesh : IsMeshOf (map_of g.plan) shape.triangles
   own_mesh = mesh_alike (map_of p) (map_of g.plan) over.grouped.lines shape.triangles over.mesh
 
@@ -56,10 +56,10 @@ module _ (p : PlanParts) (plan : IsPlan p) (shape : MeshParts) (g : Grouped) (ov
     pub apart : ¬ ShareOne from to → AreApart from to
     apart none f ha hb = none (f, ha, hb)
 
-    pub answered : ¬ ShareOne from to → (budget : Budget) → IsBudgetOf (map_of g.plan) ask budget → (given : PairAnswer) → IsBetween (map_of g.plan) shape.triangles g.labels budget from to given → IsAnswerFor (map_of p) ask pair given
+    pub answered : ¬ ShareOne from to → (budget : Budget) → IsBudgetOf (map_of g.plan) ask budget → (given : PairAnswer) → IsAnswerBetween (map_of g.plan) shape.triangles g.labels budget from to given → IsAnswerFor (map_of p) ask pair given
     answered none budget is given h = go given h
       where
-        by : (x : PairAnswer) → IsBetween (map_of g.plan) shape.triangles g.labels budget from to x → AnswersPair (map_of p) ask pair x
+        by : (x : PairAnswer) → IsAnswerBetween (map_of g.plan) shape.triangles g.labels budget from to x → AnswersPair (map_of p) ask pair x
         by x k = record {
           first = first;
           second = second;
@@ -69,7 +69,7 @@ module _ (p : PlanParts) (plan : IsPlan p) (shape : MeshParts) (g : Grouped) (ov
           is = answers p plan over.faces ask g.groups over.groups (walked budget is) pair.a pair.b from to of_a of_b (apart none) x k;
         }
 
-        go : (x : PairAnswer) → IsBetween (map_of g.plan) shape.triangles g.labels budget from to x → IsAnswerFor (map_of p) ask pair x
+        go : (x : PairAnswer) → IsAnswerBetween (map_of g.plan) shape.triangles g.labels budget from to x → IsAnswerFor (map_of p) ask pair x
         go (answer.Sight ray) k = by (answer.Sight ray) k
         go answer.Blind k = by answer.Blind k
         go answer.Touch k = by answer.Touch k

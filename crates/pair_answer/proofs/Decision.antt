@@ -17,20 +17,20 @@ use Rattle.face_groups.proofs.GroupsBase.Ordered.{empty_has_none, some_member}
 use Rattle.pair_budget.specs.Decided.{TellsConnected}
 use Rattle.pair_answer.specs.declared.answer.PairAnswer.{PairAnswer}
 use Rattle.pair_answer.specs.declared.answer.PairAnswer.TheVariants as answer
-use Rattle.pair_answer.specs.Between.{AreApart, AreBlind, AreSomeLeft, AreSomeListed, AreUnfound, AreUnlisted, FindNone, IsBack, IsBetween, IsRayAcross}
+use Rattle.pair_answer.specs.Between.{AreApart, AreBlind, AreSomeLeft, AreSomeListed, AreUnfound, AreUnlisted, FindNone, IsAnswerBack, IsAnswerBetween, IsRayAcross}
 use Rattle.pair_answer.specs.Numbers.{AreBelow}
-use Rattle.pair_answer.specs.Places.{AreJoined}
+use Rattle.pair_answer.specs.Places.{AreJoinedByComponent}
 use Rattle.pair_answer.specs.Walks.{AreMissed, IsRayFrom}
 use Rattle.pair_answer.proofs.Missed.{spent_if_seen}
 
 module _ (m : Map) (ts : List Triangle) (ls : List (Option ℕ)) (budget : Budget) (components : List ℕ) where
   -- ---- the walks back
 
-  module _ (spent to far : List ℕ) (joined : AreJoined components to spent far) where
+  module _ (spent to far : List ℕ) (joined : AreJoinedByComponent components to spent far) where
     pub ray_back : (ray turned : Ray) → IsRayFrom m ts ls budget far spent ray → ((a b : ℕ) → IsSightRay m ray a b → IsSightRay m turned b a) → IsRayAcross m ts ls budget spent to turned
     ray_back ray turned r turn = record { f = r.is_ray.k; k = r.f; start = r.is_ray.target; stop = ((joined r.f).0 r.source).0; sight = turn r.f r.is_ray.k r.is_ray.sight; found = inr r.is_ray.found }
 
-    module _ (spent_too left : List ℕ) (missed : AreMissed m ts ls budget far spent spent_too) (both : AreJoined components spent spent_too left) where
+    module _ (spent_too left : List ℕ) (missed : AreMissed m ts ls budget far spent spent_too) (both : AreJoinedByComponent components spent spent_too left) where
       pub find_none : FindNone m ts ls budget components spent to
       find_none f k cf ck j found = missed.missed k ((joined k).1 (ck, j)) f cf found
 
@@ -49,7 +49,7 @@ module _ (m : Map) (ts : List Triangle) (ls : List (Option ℕ)) (budget : Budge
 
   -- ---- the walks there
 
-  module _ (from to near : List ℕ) (joined : AreJoined components from to near) where
+  module _ (from to near : List ℕ) (joined : AreJoinedByComponent components from to near) where
     pub ray_there : (ray : Ray) → IsRayFrom m ts ls budget near to ray → IsRayAcross m ts ls budget from to ray
     ray_there ray r = record { f = r.f; k = r.is_ray.k; start = ((joined r.f).0 r.source).0; stop = r.is_ray.target; sight = r.is_ray.sight; found = inl r.is_ray.found }
 
@@ -116,7 +116,7 @@ module _ (m : Map) (ts : List Triangle) (ls : List (Option ℕ)) (budget : Budge
               },
             )
 
-      pub decides : (given : PairAnswer) → IsBack m ts ls budget components spent to given → IsBetween m ts ls budget from to given
+      pub decides : (given : PairAnswer) → IsAnswerBack m ts ls budget components spent to given → IsAnswerBetween m ts ls budget from to given
       decides (answer.Sight ray) h = across ray h
       decides answer.Blind h = (blind h.0 h.1, unlisted h.0 h.1)
       decides answer.Listed h = (unfound h.0, listed h.0 h.1)

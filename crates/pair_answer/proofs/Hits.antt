@@ -15,14 +15,14 @@ use Rattle.block_evidence.specs.declared.sight_tree.Tree.{Tree}
 use Rattle.pair_budget.specs.declared.results.Outcome.{Outcome}
 use Rattle.pair_budget.specs.declared.results.Outcome.TheVariants as outcome
 use Rattle.pair_budget.specs.declared.results.Reached.{Reached}
-use Rattle.pair_budget.specs.Exact.{IsExact}
+use Rattle.pair_budget.specs.Exact.{IsOutcomeExact}
 use Rattle.pair_budget.specs.Notes.{ordered}
 use Rattle.pair_budget.specs.Through.{AreThrough}
 use Rattle.pair_budget.specs.Walked.{AreReached, IsReachedFrom, MarksFound}
 use Rattle.group_job.specs.Sight.{IsFoundAlong}
 use Rattle.group_job.proofs.Seeing.{sight_ray_along}
-use Rattle.pair_answer.specs.Seeking.{hits, pair_once, pair_with, told}
-use Rattle.pair_answer.specs.Walks.{HasNoTarget, IsFoundTarget, IsRayTo, MissesAll}
+use Rattle.pair_answer.specs.Seeking.{hits, pair_once, pair_with, pair_told}
+use Rattle.pair_answer.specs.Walks.{HasNoTarget, IsFoundTarget, IsRayToTarget, MissesAllTargets}
 
 -- a pair in order tells the second sector, where the first is known
 other_same : (a b c : ℕ) → ordered a b ≡ ordered a c → b ≡ c
@@ -52,7 +52,7 @@ module _ (source : ℕ) (targets : List ℕ) (found : List Reached) where
           let r = of_map (λ (r : Reached). ordered source r.to) found (ordered source t) c in
           (r.0, record { there = r.1; target = subst (λ (x : ℕ). Contains targets x) (sym (other_same source r.0.to t r.2)) there })
 
-  pub target_of_hit : (hit : Option ℕ) → MarksFound source found [] (hits source targets hit) → Contains (told source targets hit) (ordered source source) → (r : Reached) × IsFoundTarget targets found r
+  pub target_of_hit : (hit : Option ℕ) → MarksFound source found [] (hits source targets hit) → Contains (pair_told source targets hit) (ordered source source) → (r : Reached) × IsFoundTarget targets found r
   target_of_hit None marks c = absurd (contains_none (ordered source source) c)
   target_of_hit (Some i) marks c = go (slice_get targets i) refl
     where
@@ -64,23 +64,23 @@ not_spent : (t : Tree) → outcome.Complete t ≡ outcome.Spent → ⊥
 not_spent t e = cc
 
 -- a walk that ended early found one
-pub early_hit : (source : ℕ) (targets : List ℕ) (found : List Reached) (s : ℕ) (ks : List ℕ) (hit : Option ℕ) → s ≡ source → ks ≡ targets → MarksFound source found [] (hits s ks hit) → Contains (told s ks hit) (ordered source source) → (r : Reached) × IsFoundTarget targets found r
+pub early_hit : (source : ℕ) (targets : List ℕ) (found : List Reached) (s : ℕ) (ks : List ℕ) (hit : Option ℕ) → s ≡ source → ks ≡ targets → MarksFound source found [] (hits s ks hit) → Contains (pair_told s ks hit) (ordered source source) → (r : Reached) × IsFoundTarget targets found r
 early_hit source targets found s ks hit e q marks c = target_of_hit source targets found hit
     (subst (λ (x : ℕ). MarksFound source found [] (hits x targets hit)) e (subst (λ (x : List ℕ). MarksFound source found [] (hits s x hit)) q marks))
-    (subst (λ (x : ℕ). Contains (told x targets hit) (ordered source source)) e (subst (λ (x : List ℕ). Contains (told s x hit) (ordered source source)) q c))
+    (subst (λ (x : ℕ). Contains (pair_told x targets hit) (ordered source source)) e (subst (λ (x : List ℕ). Contains (pair_told s x hit) (ordered source source)) q c))
 
 -- where no target was found, and the walk didn't end early
 module _ (m : Map) (ts : List Triangle) (ls : List (Option ℕ)) (source : ℕ) (budget : Budget) (targets : List ℕ) (found : List Reached) (none : HasNoTarget targets found) where
-  misses : ((b : ℕ) → Found m ts ls source b budget → (r : Reached) × Contains found r × (r.to ≡ b)) → MissesAll m ts ls budget source targets
+  misses : ((b : ℕ) → Found m ts ls source b budget → (r : Reached) × Contains found r × (r.to ≡ b)) → MissesAllTargets m ts ls budget source targets
   misses all k target f = let r = all k f in none r.0 r.1 (subst (λ (x : ℕ). Contains targets x) (sym r.2) target)
 
-  pub missed_so : (how : Outcome) → IsExact m ts ls source budget found how → how ≢ outcome.All → (b : Bool) → IsTrue b ↔ (how ≡ outcome.Spent) → MissesAll m ts ls budget source targets × (IsTrue b ↔ Spent m ts ls source budget)
+  pub missed_so : (how : Outcome) → IsOutcomeExact m ts ls source budget found how → how ≢ outcome.All → (b : Bool) → IsTrue b ↔ (how ≡ outcome.Spent) → MissesAllTargets m ts ls budget source targets × (IsTrue b ↔ Spent m ts ls source budget)
   missed_so (outcome.Complete t) exact early b is = (misses exact.ends.0, (λ q. absurd (not_spent t (is.0 q)), λ s. absurd (exact.ends.1 s)))
   missed_so outcome.Spent exact early b is = (misses exact.ends.0, (λ q. exact.ends.1, λ s. is.1 refl))
   missed_so outcome.All exact early b is = absurd (early refl)
 
 pub ray_to : (p : PlanParts) → IsPlan p → (ts : List Triangle) (ls : List (Option ℕ)) → IsGoodMesh (map_of p) ts ls → (source : ℕ) (budget : Budget) (targets : List ℕ) (found : List Reached) (how : Outcome) (r : Reached)
-    → AreReached p source found → AreThrough p ts ls source found → IsExact (map_of p) ts ls source budget found how → IsFoundTarget targets found r → IsRayTo (map_of p) ts ls budget source targets r.ray
+    → AreReached p source found → AreThrough p ts ls source found → IsOutcomeExact (map_of p) ts ls source budget found how → IsFoundTarget targets found r → IsRayToTarget (map_of p) ts ls budget source targets r.ray
 ray_to p plan ts ls good source budget targets found how r reached through exact h =
     let along : IsFoundAlong p ts ls source r = record { is_reached = All-contains (IsReachedFrom p source) found r reached.each h.there; is_through = through r h.there } in
     let ray : PairRay = record { pair = record { a = source; b = r.to }; ray = r.ray } in record {

@@ -13,14 +13,14 @@ use Rattle.sight_names.specs.Sequence.{Sequence}
 use Rattle.sight_names.specs.Sound.{LinesMeetAtEnds}
 use Rattle.sight_names.proofs.Lists.{get_of_contains}
 use Rattle.sight_lift.proofs.LiftLaws.{sight_is_lifted}
-use Rattle.sight_lift.specs.SequenceLaws.InOrder.{IsInOrder}
+use Rattle.sight_lift.specs.SequenceLaws.InOrder.{AreSequencesInOrder}
 use Rattle.sight_lift.proofs.SequenceLaws.All.{stand_in_order}
-use Rattle.pair_answer.specs.Numbers.{added, IsAmong}
-use Rattle.pair_answer.specs.Walks.{AreMissed, AreMissedBelow, MissesAll}
+use Rattle.pair_answer.specs.Numbers.{added, IsAmongFirst}
+use Rattle.pair_answer.specs.Walks.{AreMissed, AreMissedBelow, MissesAllTargets}
 use Rattle.pair_answer.proofs.Numbers.{added_is, among_contains, among_last, among_more, among_next, contains_among}
 
 module _ (m : Map) (ts : List Triangle) (ls : List (Option ℕ)) (good : IsGoodMesh m ts ls) (a b : ℕ) where
-  order : IsInOrder m ts ls a
+  order : AreSequencesInOrder m ts ls a
   order = stand_in_order m ts ls a good
 
   place : (s : Sequence) → Reaches m ts ls a s b → (i : ℕ) × (slice_get order.all i ≡ Some s)
@@ -41,12 +41,12 @@ module _ (m : Map) (ts : List Triangle) (ls : List (Option ℕ)) (good : IsGoodM
 -- ---- one more source
 
 module _ (m : Map) (ts : List Triangle) (ls : List (Option ℕ)) (budget : Budget) (sources targets : List ℕ) where
-  pub missed_more : (n x : ℕ) (old new : List ℕ) (b : Bool) → slice_get sources n ≡ Some x → AreMissedBelow m ts ls budget n sources targets old → MissesAll m ts ls budget x targets × (IsTrue b ↔ Spent m ts ls x budget) → new ≡ added b x old
+  pub missed_more : (n x : ℕ) (old new : List ℕ) (b : Bool) → slice_get sources n ≡ Some x → AreMissedBelow m ts ls budget n sources targets old → MissesAllTargets m ts ls budget x targets × (IsTrue b ↔ Spent m ts ls x budget) → new ≡ added b x old
       → AreMissedBelow m ts ls budget (n + 1) sources targets new
   missed_more n x old new b there all is e = record {
-    missed = λ f h. elim (among_next n sources f h) as (λ _. MissesAll m ts ls budget f targets) [
+    missed = λ f h. elim (among_next n sources f h) as (λ _. MissesAllTargets m ts ls budget f targets) [
       | inl k ↦ all.missed f k
-      | inr q ↦ subst (λ (y : ℕ). MissesAll m ts ls budget y targets) (same f q) is.0
+      | inr q ↦ subst (λ (y : ℕ). MissesAllTargets m ts ls budget y targets) (same f q) is.0
     ];
     ran_out = λ f. (λ c. to f ((added_is b x old new e f).0 c), λ h. (added_is b x old new e f).1 (back f h));
   }
@@ -54,11 +54,11 @@ module _ (m : Map) (ts : List Triangle) (ls : List (Option ℕ)) (budget : Budge
       same : (f : ℕ) → slice_get sources n ≡ Some f → x ≡ f
       same f q = same_Some x f (sym there ∙ q)
 
-      to : (f : ℕ) → Contains old f ⊎ (IsTrue b × (x ≡ f)) → IsAmong (n + 1) sources f × Spent m ts ls f budget
+      to : (f : ℕ) → Contains old f ⊎ (IsTrue b × (x ≡ f)) → IsAmongFirst (n + 1) sources f × Spent m ts ls f budget
       to f (inl c) = let h = (all.ran_out f).0 c in (among_more n sources f h.0, h.1)
-      to f (inr (t, q)) = (subst (λ (y : ℕ). IsAmong (n + 1) sources y) q (among_last n sources x there), subst (λ (y : ℕ). Spent m ts ls y budget) q (is.1.0 t))
+      to f (inr (t, q)) = (subst (λ (y : ℕ). IsAmongFirst (n + 1) sources y) q (among_last n sources x there), subst (λ (y : ℕ). Spent m ts ls y budget) q (is.1.0 t))
 
-      back : (f : ℕ) → IsAmong (n + 1) sources f × Spent m ts ls f budget → Contains old f ⊎ (IsTrue b × (x ≡ f))
+      back : (f : ℕ) → IsAmongFirst (n + 1) sources f × Spent m ts ls f budget → Contains old f ⊎ (IsTrue b × (x ≡ f))
       back f h = elim (among_next n sources f h.0) as (λ _. Contains old f ⊎ (IsTrue b × (x ≡ f))) [
         | inl k ↦ inl ((all.ran_out f).1 (k, h.1))
         | inr q ↦ inr (is.1.1 (subst (λ (y : ℕ). Spent m ts ls y budget) (sym (same f q)) h.1), same f q)

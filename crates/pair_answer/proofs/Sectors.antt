@@ -31,9 +31,9 @@ use Rattle.group_job.proofs.KeptFaces.{good_mesh}
 use Rattle.group_job.proofs.OneWalk.{budget_of_map, same_budget}
 use Rattle.pair_answer.specs.declared.answer.PairAnswer.{PairAnswer}
 use Rattle.pair_answer.specs.declared.answer.PairAnswer.TheVariants as answer
-use Rattle.pair_answer.specs.Answer.{AnswersPair, AreTouching, IsAnswerFor, IsAnswerOver, IsRayOf}
-use Rattle.pair_answer.specs.Between.{AreApart, IsBetween}
-use Rattle.pair_answer.specs.Laws.{IsSaidOf, TellsSight}
+use Rattle.pair_answer.specs.Answer.{AnswersPair, AreTouching, IsAnswerFor, IsAnswerOver, IsRayOfGroups}
+use Rattle.pair_answer.specs.Between.{AreApart, IsAnswerBetween}
+use Rattle.pair_answer.specs.Laws.{IsSaidByBuild, AnswerTellsSight}
 use Rattle.pair_answer.specs.Places.{ArePlacesOf}
 
 -- ---- listed pairs, in either order
@@ -92,7 +92,7 @@ module _ (p : PlanParts) (plan : IsPlan p) (faces : HasClosedFaces (map_of p)) (
     touching_see : AreTouching groups a b → Sees (map_of p) a b
     touching_see (f, ha, hb) = (sees_by a b).1 (f, f, ha, hb, (sees_itself w.g f is_map sound.ends).1 (named_group f ha.0 ha.1))
 
-    ray_sees : (ray : Ray) → IsRayOf (map_of p) ask groups w a b ray → Sees (map_of p) a b
+    ray_sees : (ray : Ray) → IsRayOfGroups (map_of p) ask groups w a b ray → Sees (map_of p) a b
     ray_sees ray r = (sees_by a b).1 (r.f, r.k, r.from, r.to, sight_sees w.g ray r.f r.k is_map sound.ends r.sight)
 
     -- ---- the answer
@@ -101,7 +101,7 @@ module _ (p : PlanParts) (plan : IsPlan p) (faces : HasClosedFaces (map_of p)) (
       untouched : ¬ AreTouching groups a b
       untouched (f, ha, hb) = apart f ((of_a f).1 ha) ((of_b f).1 hb)
 
-      pub answers : (given : PairAnswer) → IsBetween w.g w.triangles w.labels w.budget from to given → IsAnswerOver (map_of p) ask groups w a b given
+      pub answers : (given : PairAnswer) → IsAnswerBetween w.g w.triangles w.labels w.budget from to given → IsAnswerOver (map_of p) ask groups w a b given
       answers (answer.Sight ray) h = (untouched, record { f = h.f; k = h.k; from = (of_a h.f).0 h.start; to = (of_b h.k).0 h.stop; sight = h.sight; found = h.found })
       answers answer.Blind h = (
         λ s. let x = (sees_by a b).0 s in h.0 x.0 x.1 ((of_a x.0).1 x.2) ((of_b x.1).1 x.3) x.4,
@@ -141,7 +141,7 @@ module _ (p : PlanParts) (plan : IsPlan p) (faces : HasClosedFaces (map_of p)) (
       ]
 
       -- what is found isn't listed
-      unlisted_found : (ray : Ray) → IsRayOf (map_of p) ask groups w a b ray → ¬ IsListedByGroups (map_of p) w.budget a b
+      unlisted_found : (ray : Ray) → IsRayOfGroups (map_of p) ask groups w a b ray → ¬ IsListedByGroups (map_of p) w.budget a b
       unlisted_found ray r l = let n = ((listed_is a b).0 l).none r.f r.k r.from r.to in elim r.found as (λ _. ⊥) [ inl h ↦ n.1 h | inr h ↦ n.2 h ]
 
       unlisted_touching : AreTouching groups a b → ¬ IsListedByGroups (map_of p) w.budget a b
@@ -151,14 +151,14 @@ module _ (p : PlanParts) (plan : IsPlan p) (faces : HasClosedFaces (map_of p)) (
         clear_seen : Sees (map_of p) a b → ¬ Rejects built.table a b
         clear_seen s bit = ((d.bits a b low low_too).0 bit).0 s
 
-        pub said : (given : PairAnswer) → IsAnswerOver (map_of p) ask groups w a b given → IsSaidOf built (record { a = a; b = b }) given
+        pub said : (given : PairAnswer) → IsAnswerOver (map_of p) ask groups w a b given → IsSaidByBuild built (record { a = a; b = b }) given
         said (answer.Sight ray) h = (clear_seen (ray_sees ray h.1), λ l. unlisted_found ray h.1 (by_list l))
         said answer.Blind h = ((d.bits a b low low_too).1 (h.0, λ l. h.1 (subst (λ (x : Budget). IsListedByGroups (map_of p) x a b) (sym same) l)), λ l. h.1 (by_list l))
         said answer.Touch h = (clear_seen (touching_see h), λ l. unlisted_touching h (by_list l))
         said answer.Listed h = (λ bit. ((d.bits a b low low_too).0 bit).1 (theirs h), in_list h)
         said (answer.NoSector k) h = absurd h
 
-    pub tells : (given : PairAnswer) → IsAnswerOver (map_of p) ask groups w a b given → TellsSight (map_of p) (record { a = a; b = b }) given
+    pub tells : (given : PairAnswer) → IsAnswerOver (map_of p) ask groups w a b given → AnswerTellsSight (map_of p) (record { a = a; b = b }) given
     tells (answer.Sight ray) h = ray_sees ray h.1
     tells answer.Blind h = h.0
     tells answer.Touch h = touching_see h
@@ -167,26 +167,26 @@ module _ (p : PlanParts) (plan : IsPlan p) (faces : HasClosedFaces (map_of p)) (
 
 -- ---- the laws
 
-pub answers_tell : (p : PlanParts) (ask : Ask) (pair : Pair) (given : PairAnswer) → IsPlan p → HasClosedFaces (map_of p) → IsAnswerFor (map_of p) ask pair given → TellsSight (map_of p) pair given
+pub answers_tell : (p : PlanParts) (ask : Ask) (pair : Pair) (given : PairAnswer) → IsPlan p → HasClosedFaces (map_of p) → IsAnswerFor (map_of p) ask pair given → AnswerTellsSight (map_of p) pair given
 answers_tell p ask pair given plan faces h = go given h
   where
-    by : (x : PairAnswer) → AnswersPair (map_of p) ask pair x → TellsSight (map_of p) pair x
+    by : (x : PairAnswer) → AnswersPair (map_of p) ask pair x → AnswerTellsSight (map_of p) pair x
     by x k = tells p plan faces ask k.groups k.are_groups k.walked pair.a pair.b x k.is
 
-    go : (x : PairAnswer) → IsAnswerFor (map_of p) ask pair x → TellsSight (map_of p) pair x
+    go : (x : PairAnswer) → IsAnswerFor (map_of p) ask pair x → AnswerTellsSight (map_of p) pair x
     go (answer.Sight ray) k = by (answer.Sight ray) k
     go answer.Blind k = by answer.Blind k
     go answer.Touch k = by answer.Touch k
     go answer.Listed k = tt
     go (answer.NoSector n) k = tt
 
-pub answers_said : (p : PlanParts) (ask : Ask) (pair : Pair) (given : PairAnswer) (built : GroupBuilt) → IsPlan p → HasClosedFaces (map_of p) → DecidesByGroups (map_of p) ask built → IsAnswerFor (map_of p) ask pair given → IsSaidOf built pair given
+pub answers_said : (p : PlanParts) (ask : Ask) (pair : Pair) (given : PairAnswer) (built : GroupBuilt) → IsPlan p → HasClosedFaces (map_of p) → DecidesByGroups (map_of p) ask built → IsAnswerFor (map_of p) ask pair given → IsSaidByBuild built pair given
 answers_said p ask pair given built plan faces d h = go given h
   where
-    by : (x : PairAnswer) → AnswersPair (map_of p) ask pair x → IsSaidOf built pair x
+    by : (x : PairAnswer) → AnswersPair (map_of p) ask pair x → IsSaidByBuild built pair x
     by x k = said p plan faces ask k.groups k.are_groups k.walked pair.a pair.b built d k.first k.second x k.is
 
-    go : (x : PairAnswer) → IsAnswerFor (map_of p) ask pair x → IsSaidOf built pair x
+    go : (x : PairAnswer) → IsAnswerFor (map_of p) ask pair x → IsSaidByBuild built pair x
     go (answer.Sight ray) k = by (answer.Sight ray) k
     go answer.Blind k = by answer.Blind k
     go answer.Touch k = by answer.Touch k

@@ -16,7 +16,7 @@ use Rattle.pair_answer.specs.declared.answer.PairAnswer.{PairAnswer}
 use Rattle.pair_answer.specs.declared.answer.PairAnswer.TheVariants as answer
 
 -- the map of the plan has closed faces; these are its mesh, its groups, its map of groups, and the labels of that
-pub record AreGroupsOver (p : PlanParts) (shape : MeshParts) (g : Grouped) : Type 0 where
+pub record AreGroupsOverShape (p : PlanParts) (shape : MeshParts) (g : Grouped) : Type 0 where
   pub faces : HasClosedFaces (map_of p)
   pub groups : AreGroups (map_of p) g.groups
   pub grouped : IsGroupedMap (map_of p) g.groups (map_of g.plan)
@@ -31,7 +31,7 @@ AreTouching groups a b = (f : ℕ) × IsInGroup groups a f × IsInGroup groups b
 module _ (m : Map) (ask : Ask) (groups : List (List ℕ)) (w : WalkedMap m ask groups) (a b : ℕ) where
   -- The ray is a sight ray from a group of the one sector to a group of the other, as the rays of a certificate are; and one of
   -- the two groups is found from the other within the budget.
-  pub record IsRayOf (ray : Ray) : Type 0 where
+  pub record IsRayOfGroups (ray : Ray) : Type 0 where
     pub f : ℕ
     pub k : ℕ
     pub from : IsInGroup groups a f
@@ -41,7 +41,7 @@ module _ (m : Map) (ask : Ask) (groups : List (List ℕ)) (w : WalkedMap m ask g
 
   -- the answer over the groups and their map; for sectors alone
   abbrev pub IsAnswerOver : PairAnswer → Type 0
-  IsAnswerOver (answer.Sight ray) = (¬ AreTouching groups a b) × IsRayOf ray
+  IsAnswerOver (answer.Sight ray) = (¬ AreTouching groups a b) × IsRayOfGroups ray
   IsAnswerOver answer.Blind = (¬ Sees m a b) × ¬ IsListedByGroups m w.budget a b
   IsAnswerOver answer.Touch = AreTouching groups a b
   IsAnswerOver answer.Listed = IsListedByGroups m w.budget a b

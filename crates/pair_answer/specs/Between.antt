@@ -42,11 +42,11 @@ module _ (m : Map) (ts : List Triangle) (ls : List (Option ℕ)) (budget : Budge
   AreSomeListed from to = (f k : ℕ) × Contains from f × Contains to k × IsListedOver m ts ls budget f k
 
   -- what all walks between the two decide
-  abbrev pub IsBetween : List ℕ → List ℕ → PairAnswer → Type 0
-  IsBetween from to (answer.Sight ray) = IsRayAcross from to ray
-  IsBetween from to answer.Blind = AreBlind from to × AreUnlisted from to
-  IsBetween from to answer.Listed = AreUnfound from to × AreSomeListed from to
-  IsBetween from to other = ⊥
+  abbrev pub IsAnswerBetween : List ℕ → List ℕ → PairAnswer → Type 0
+  IsAnswerBetween from to (answer.Sight ray) = IsRayAcross from to ray
+  IsAnswerBetween from to answer.Blind = AreBlind from to × AreUnlisted from to
+  IsAnswerBetween from to answer.Listed = AreUnfound from to × AreSomeListed from to
+  IsAnswerBetween from to other = ⊥
 
   -- ---- the walks back, to sources whose budgets are spent
 
@@ -58,8 +58,8 @@ module _ (m : Map) (ts : List Triangle) (ls : List (Option ℕ)) (budget : Budge
   abbrev pub FindNone : List ℕ → List ℕ → List ℕ → Type 0
   FindNone components spent to = (f k : ℕ) → Contains spent f → Contains to k → IsJoined components spent k → ¬ Found m ts ls k f budget
 
-  abbrev pub IsBack : List ℕ → List ℕ → List ℕ → PairAnswer → Type 0
-  IsBack components spent to (answer.Sight ray) = IsRayAcross spent to ray
-  IsBack components spent to answer.Blind = FindNone components spent to × ¬ AreSomeLeft components spent to
-  IsBack components spent to answer.Listed = FindNone components spent to × AreSomeLeft components spent to
-  IsBack components spent to other = ⊥
+  abbrev pub IsAnswerBack : List ℕ → List ℕ → List ℕ → PairAnswer → Type 0
+  IsAnswerBack components spent to (answer.Sight ray) = IsRayAcross spent to ray
+  IsAnswerBack components spent to answer.Blind = FindNone components spent to × ¬ AreSomeLeft components spent to
+  IsAnswerBack components spent to answer.Listed = FindNone components spent to × AreSomeLeft components spent to
+  IsAnswerBack components spent to other = ⊥

@@ -7,7 +7,7 @@ use Rattle.portal_walk.specs.Terrain.{IsTerrain}
 use Rattle.pair_answer.specs.declared.ground.Ground.{Ground}
 
 -- a good labelled mesh of a map whose lines meet at ends, with its terrain
-pub record IsGround (j : Ground) : Type 0 where
+pub record IsAnswerGround (j : Ground) : Type 0 where
   pub points : j.mesh.now.points ≡ length j.plan.now.points
   pub audited : LinesMeetAtEnds (map_of j.plan.now)
   pub good : IsGoodMesh (map_of j.plan.now) j.mesh.now.triangles j.labels.now

@@ -11,5 +11,5 @@ abbrev pub AreBelow : ℕ → List ℕ → Type 0
 AreBelow n xs = (x : ℕ) → Contains xs x → x < n
 
 -- one of the first n
-abbrev pub IsAmong : ℕ → List ℕ → ℕ → Type 0
-IsAmong n xs x = (i : ℕ) × (i < n) × (slice_get xs i ≡ Some x)
+abbrev pub IsAmongFirst : ℕ → List ℕ → ℕ → Type 0
+IsAmongFirst n xs x = (i : ℕ) × (i < n) × (slice_get xs i ≡ Some x)

@@ -1,7 +1,7 @@
 -- The groups of a sector, and which of them passable lines connect with others.
 use Rattle.std.specs.Prelude.{◌≡◌, ℕ, ◌<◌, ◌↔◌, List, slice_get, Contains}
 use Rattle.sight_names.specs.Groups.{IsInGroup}
-use Rattle.pair_answer.specs.Numbers.{IsAmong}
+use Rattle.pair_answer.specs.Numbers.{IsAmongFirst}
 
 -- the places of the groups that contain the sector
 abbrev pub ArePlacesOf : List (List ℕ) → ℕ → List ℕ → Type 0
@@ -20,9 +20,9 @@ abbrev pub IsJoined : List ℕ → List ℕ → ℕ → Type 0
 IsJoined components others f = (k : ℕ) × Contains others k × (slice_get components k ≡ slice_get components f)
 
 -- those of the groups that have the component of one of the others
-abbrev pub AreJoined : List ℕ → List ℕ → List ℕ → List ℕ → Type 0
-AreJoined components groups others kept = (f : ℕ) → Contains kept f ↔ (Contains groups f × IsJoined components others f)
+abbrev pub AreJoinedByComponent : List ℕ → List ℕ → List ℕ → List ℕ → Type 0
+AreJoinedByComponent components groups others kept = (f : ℕ) → Contains kept f ↔ (Contains groups f × IsJoined components others f)
 
 -- of the first n of them
 abbrev pub AreJoinedBelow : ℕ → List ℕ → List ℕ → List ℕ → List ℕ → Type 0
-AreJoinedBelow n components groups others kept = (f : ℕ) → Contains kept f ↔ (IsAmong n groups f × IsJoined components others f)
+AreJoinedBelow n components groups others kept = (f : ℕ) → Contains kept f ↔ (IsAmongFirst n groups f × IsJoined components others f)

@@ -3,8 +3,8 @@ use Rattle.std.specs.Prelude.{◌≡◌, ℕ, List, [], ◌∷◌, Option, Some,
 use Rattle.pair_budget.specs.Notes.{ordered}
 
 -- the source with itself: a pair that stands for the end of its search
-abbrev pub IsOwn : ℕ → ℕ → ℕ → Type 0
-IsOwn source a b = (a ≡ source) × (b ≡ source)
+abbrev pub IsOwnPair : ℕ → ℕ → ℕ → Type 0
+IsOwnPair source a b = (a ≡ source) × (b ≡ source)
 
 -- the target that was hit
 abbrev pub target_at : List ℕ → Option ℕ → Option ℕ
@@ -23,5 +23,5 @@ pair_once source (Some target) = ordered source source ∷ []
 abbrev pub hits : ℕ → List ℕ → Option ℕ → List (ℕ × ℕ)
 hits source targets hit = pair_with source (target_at targets hit)
 
-abbrev pub told : ℕ → List ℕ → Option ℕ → List (ℕ × ℕ)
-told source targets hit = pair_once source (target_at targets hit)
+abbrev pub pair_told : ℕ → List ℕ → Option ℕ → List (ℕ × ℕ)
+pair_told source targets hit = pair_once source (target_at targets hit)

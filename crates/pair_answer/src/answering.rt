@@ -4,7 +4,7 @@ ghost use Rattle.std.specs.Prelude.{◌≡◌, ◌<◌, IfOk};
 ghost use Rattle.sight_names.specs.Enough.{IsBudgetOf};
 ghost use Rattle.sight_names.specs.Map.{map_of};
 ghost use Rattle.sight_names.specs.Mesh.{IsMeshOf};
-ghost use Rattle.pair_answer.specs.Answer.{AreGroupsOver, IsAnswerFor};
+ghost use Rattle.pair_answer.specs.Answer.{AreGroupsOverShape, IsAnswerFor};
 
 use crate::answer::PairAnswer;
 use crate::between::walk_between;
@@ -45,7 +45,7 @@ pub fn pair_answer(
     ask: Ask,
     pair: Pair,
 ) -> Result<PairAnswer, Memory>
-    requires groups { AreGroupsOver plan.now mesh.now grouped.now }
+    requires groups { AreGroupsOverShape plan.now mesh.now grouped.now }
     ensures answer { IfOk result (IsAnswerFor (map_of plan.now) ask pair) }
 {
     let _ = plan.lines();

@@ -4,9 +4,9 @@ ghost use Rattle.std.specs.Prelude.{◌≡◌, IfOk, length};
 ghost use Rattle.sight_names.specs.Map.{map_of};
 ghost use Rattle.sight_names.specs.Mesh.{IsGoodMesh};
 ghost use Rattle.sight_names.specs.Sound.{LinesMeetAtEnds};
-ghost use Rattle.pair_answer.specs.Ground.{IsGround};
+ghost use Rattle.pair_answer.specs.Ground.{IsAnswerGround};
 ghost use Rattle.pair_answer.specs.Numbers.{AreBelow};
-ghost use Rattle.pair_answer.specs.Between.{AreApart, IsBetween, IsBack};
+ghost use Rattle.pair_answer.specs.Between.{AreApart, IsAnswerBetween, IsAnswerBack};
 
 use crate::answer::PairAnswer;
 use crate::ground::Ground;
@@ -27,11 +27,11 @@ fn walk_back(
     spent: &[u16],
     to: &[u16],
 ) -> Result<PairAnswer, Memory>
-    requires ground { IsGround ground.now }
+    requires ground { IsAnswerGround ground.now }
     requires each { length components.now ≡ ground.now.plan.now.sectors }
     requires spent { AreBelow ground.now.plan.now.sectors spent.now }
     requires to { AreBelow ground.now.plan.now.sectors to.now }
-    ensures { IfOk result (IsBack (map_of ground.now.plan.now) ground.now.mesh.now.triangles ground.now.labels.now ground.now.budget components.now spent.now to.now) }
+    ensures { IfOk result (IsAnswerBack (map_of ground.now.plan.now) ground.now.mesh.now.triangles ground.now.labels.now ground.now.budget components.now spent.now to.now) }
 {
     let far = joined(alloc, components, to, spent)?;
     match seek_all(alloc, ground, far.as_slice(), spent)? {
@@ -64,7 +64,7 @@ pub fn walk_between(
     requires from { AreBelow plan.now.sectors from.now }
     requires to { AreBelow plan.now.sectors to.now }
     requires apart { AreApart from.now to.now }
-    ensures { IfOk result (IsBetween (map_of plan.now) mesh.now.triangles labels.now budget from.now to.now) }
+    ensures { IfOk result (IsAnswerBetween (map_of plan.now) mesh.now.triangles labels.now budget from.now to.now) }
 {
     let _ = plan.lines();
     let classes = components(alloc, plan)?;

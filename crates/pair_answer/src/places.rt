@@ -2,7 +2,7 @@
 
 ghost use Rattle.std.specs.Prelude.{◌≡◌, ◌<◌, ◌↔◌, Contains, IfOk, IsTrue, OnOk, length};
 ghost use Rattle.pair_answer.specs.Numbers.{added, AreBelow};
-ghost use Rattle.pair_answer.specs.Places.{ArePlacesOf, AreJoined, IsJoined, ShareOne};
+ghost use Rattle.pair_answer.specs.Places.{ArePlacesOf, AreJoinedByComponent, IsJoined, ShareOne};
 
 use face_groups::Group;
 use sight_names::Memory;
@@ -88,7 +88,7 @@ pub fn joined(
 ) -> Result<Vec<u16>, Memory>
     requires groups { AreBelow (length components.now) groups.now }
     requires others { AreBelow (length components.now) others.now }
-    ensures { IfOk result (λ v. AreJoined components.now groups.now others.now v.items) }
+    ensures { IfOk result (λ v. AreJoinedByComponent components.now groups.now others.now v.items) }
 {
     let mut kept = Vec::new(alloc);
     for i in 0..groups.len() {

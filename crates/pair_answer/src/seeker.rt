@@ -26,7 +26,7 @@ pub struct Seeker<'a> {
 
 impl<'a> Notice for Seeker<'a> {
     ghost use Rattle.std.specs.Prelude.{[], true, ⊤};
-    ghost use Rattle.pair_answer.specs.Seeking.{IsOwn, hits, told};
+    ghost use Rattle.pair_answer.specs.Seeking.{IsOwnPair, hits, pair_told};
 
     type Tag = (u16, &'a [u16]);
 
@@ -38,11 +38,11 @@ impl<'a> Notice for Seeker<'a> {
 
     ghost claims = { λ _. [] };
 
-    ghost mates = { λ s a b. IsOwn s.source a b };
+    ghost mates = { λ s a b. IsOwnPair s.source a b };
 
     ghost marks = { λ s. hits s.source s.targets.now s.hit };
 
-    ghost seen = { λ s. told s.source s.targets.now s.hit };
+    ghost seen = { λ s. pair_told s.source s.targets.now s.hit };
 
     ghost looks = { λ _. [] };
 

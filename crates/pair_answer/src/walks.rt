@@ -3,7 +3,7 @@
 ghost use Rattle.std.specs.Prelude.{◌≡◌, ◌<◌, ◌↔◌, IfOk, IsTrue, MatchOption};
 ghost use Rattle.sight_names.specs.Map.{map_of};
 ghost use Rattle.pair_budget.specs.declared.results.Outcome.TheVariants as outcome;
-ghost use Rattle.pair_answer.specs.Ground.{IsGround};
+ghost use Rattle.pair_answer.specs.Ground.{IsAnswerGround};
 ghost use Rattle.pair_answer.specs.Numbers.{AreBelow};
 ghost use Rattle.pair_answer.specs.Walks.{IsSought, AreSought, IsFoundTarget, HasNoTarget};
 
@@ -53,7 +53,7 @@ fn ran_out(walked: &SourceResult) -> bool
 
 /// Walks a source until it finds one of the targets.
 fn seek(alloc: Global, ground: &Ground<'_>, source: u16, targets: &[u16]) -> Result<Sought, Memory>
-    requires ground { IsGround ground.now }
+    requires ground { IsAnswerGround ground.now }
     requires source { source < ground.now.plan.now.sectors }
     ensures { IfOk result (IsSought (map_of ground.now.plan.now) ground.now.mesh.now.triangles ground.now.labels.now ground.now.budget source targets.now) }
 {
@@ -86,7 +86,7 @@ pub fn seek_all(
     sources: &[u16],
     targets: &[u16],
 ) -> Result<AllSought, Memory>
-    requires ground { IsGround ground.now }
+    requires ground { IsAnswerGround ground.now }
     requires sources { AreBelow ground.now.plan.now.sectors sources.now }
     ensures { IfOk result (AreSought (map_of ground.now.plan.now) ground.now.mesh.now.triangles ground.now.labels.now ground.now.budget sources.now targets.now) }
 {

@@ -13,8 +13,8 @@ use Rattle.reject_bits.specs.Parts.{TableParts, Rejects, SetsPair, KeepsOtherPai
 use Rattle.pair_budget.specs.declared.results.Reached.{Reached}
 use Rattle.pair_budget.specs.declared.results.SourceResult.{SourceResult}
 use Rattle.pair_budget.specs.Walked.{IsReachedFrom}
-use Rattle.pair_budget.specs.Decide.{AreResults, AreFound, IsRayOf, turned}
-use Rattle.pair_budget.specs.PairRays.{PairRaysParts, HasRayFor, AreMarked, IsNoted, toward, all_rays, KeepsOneEach}
+use Rattle.pair_budget.specs.Decide.{AreResults, AreFound, IsRayOfResults, turned_ray}
+use Rattle.pair_budget.specs.PairRays.{PairRaysParts, HasRayFor, AreRayPairsMarked, IsRayNoted, toward, all_rays, KeepsOneEach}
 use Rattle.pair_budget.specs.Rows.{KnowsFound}
 use Rattle.math_base.proofs.Numbers.{below_or_above}
 use Rattle.math_base.proofs.Lists.{pushed_at, contains_none, contains_here}
@@ -44,7 +44,7 @@ has_pushed rays r a b h = elim (Contains-push_cases rays r h.0 h.1) [
 ]
 
 -- the bit of the new ray's pair is set
-pub marked_more : (old new : TableParts) (rays : List PairRay) (r : PairRay) → AreMarked old rays → r.pair.a < old.n → r.pair.b < old.n → SetsPair old new r.pair.a r.pair.b → KeepsOtherPairs old new r.pair.a r.pair.b → AreMarked new (rays ++ r ∷ [])
+pub marked_more : (old new : TableParts) (rays : List PairRay) (r : PairRay) → AreRayPairsMarked old rays → r.pair.a < old.n → r.pair.b < old.n → SetsPair old new r.pair.a r.pair.b → KeepsOtherPairs old new r.pair.a r.pair.b → AreRayPairsMarked new (rays ++ r ∷ [])
 marked_more old new rays r marked la lb sets keeps = record { bits = λ c d lc ld. at c d (subst (λ (n : ℕ). c < n) sets.sectors lc) (subst (λ (n : ℕ). d < n) sets.sectors ld) (same_or_other c d r.pair.a r.pair.b) }
   where
     at : (c d : ℕ) → c < old.n → d < old.n → ((c ≡ r.pair.a) × (d ≡ r.pair.b)) ⊎ ((c ≢ r.pair.a) ⊎ (d ≢ r.pair.b)) → Rejects new c d ↔ HasRayFor (rays ++ r ∷ []) c d
@@ -62,7 +62,7 @@ marked_more old new rays r marked la lb sets keeps = record { bits = λ c d lc l
 
 -- ---- what is gathered
 
-pub noted : (all : List PairRay) (r : PairRay) (old new : PairRaysParts) → KeepsOneEach all old.rays → IsNoted r old new → KeepsOneEach (all ++ r ∷ []) new.rays
+pub noted : (all : List PairRay) (r : PairRay) (old new : PairRaysParts) → KeepsOneEach all old.rays → IsRayNoted r old new → KeepsOneEach (all ++ r ∷ []) new.rays
 noted all r old new g is = elim is.rays [
   | inl same ↦ subst (λ (rays : List PairRay). KeepsOneEach (all ++ r ∷ []) rays) (sym same.1) (record {
     from = λ s c. Contains-append_left all (r ∷ []) s (g.from s c);
@@ -83,15 +83,15 @@ noted all r old new g is = elim is.rays [
     apart none i j s t lt (inr h) (inr k) = absurd (omega (arith, h.0, k.0, lt))
 
 -- one found sector more of a source
-pub noted_more : (all : List PairRay) (f : Reached → PairRay) (xs : List Reached) (i : ℕ) (d : Reached) (old new : PairRaysParts) → i < length xs → KeepsOneEach (all ++ map f (take i xs)) old.rays → IsNoted (f (get_or xs i d)) old new → KeepsOneEach (all ++ map f (take (i + 1) xs)) new.rays
+pub noted_more : (all : List PairRay) (f : Reached → PairRay) (xs : List Reached) (i : ℕ) (d : Reached) (old new : PairRaysParts) → i < length xs → KeepsOneEach (all ++ map f (take i xs)) old.rays → IsRayNoted (f (get_or xs i d)) old new → KeepsOneEach (all ++ map f (take (i + 1) xs)) new.rays
 noted_more all f xs i d old new lt g is =
     let e : (all ++ map f (take i xs)) ++ f (get_or xs i d) ∷ [] ≡ all ++ map f (take (i + 1) xs) = append_assoc all (map f (take i xs)) (f (get_or xs i d) ∷ []) ∙ ap (λ (ys : List PairRay). all ++ ys) (sym (map_more f xs i d lt)) in
     subst (λ (ys : List PairRay). KeepsOneEach ys new.rays) e (noted (all ++ map f (take i xs)) (f (get_or xs i d)) old new g is)
 
 -- ---- a ray runs from the smaller sector to the larger
 
-by_test : (b : Bool) (source : ℕ) (x : Reached) → nat_lt source x.to ≡ b → toward source x ≡ (if b then record { pair = record { a = source; b = x.to }; ray = x.ray } else record { pair = record { a = x.to; b = source }; ray = turned x.ray })
-by_test b source x h = ap (λ (b : Bool). (if b then record { pair = record { a = source; b = x.to }; ray = x.ray } else record { pair = record { a = x.to; b = source }; ray = turned x.ray })) h
+by_test : (b : Bool) (source : ℕ) (x : Reached) → nat_lt source x.to ≡ b → toward source x ≡ (if b then record { pair = record { a = source; b = x.to }; ray = x.ray } else record { pair = record { a = x.to; b = source }; ray = turned_ray x.ray })
+by_test b source x h = ap (λ (b : Bool). (if b then record { pair = record { a = source; b = x.to }; ray = x.ray } else record { pair = record { a = x.to; b = source }; ray = turned_ray x.ray })) h
 
 pub toward_up : (source : ℕ) (x : Reached) → source < x.to → toward source x ≡ record { pair = record { a = source; b = x.to }; ray = x.ray }
 toward_up source x lt = at (nat_lt source x.to) refl
@@ -100,10 +100,10 @@ toward_up source x lt = at (nat_lt source x.to) refl
     at true h = by_test true source x h
     at false h = let k = ltb-false source x.to h in absurd (omega arith)
 
-pub toward_down : (source : ℕ) (x : Reached) → x.to < source → toward source x ≡ record { pair = record { a = x.to; b = source }; ray = turned x.ray }
+pub toward_down : (source : ℕ) (x : Reached) → x.to < source → toward source x ≡ record { pair = record { a = x.to; b = source }; ray = turned_ray x.ray }
 toward_down source x lt = at (nat_lt source x.to) refl
   where
-    at : (b : Bool) → nat_lt source x.to ≡ b → toward source x ≡ record { pair = record { a = x.to; b = source }; ray = turned x.ray }
+    at : (b : Bool) → nat_lt source x.to ≡ b → toward source x ≡ record { pair = record { a = x.to; b = source }; ray = turned_ray x.ray }
     at true h = let k = ltb-true source x.to h in absurd (omega arith)
     at false h = by_test false source x h
 
@@ -141,7 +141,7 @@ has_source (v ∷ rs) (suc k) w x h c = Contains-append_right (map (toward v.sou
 pub record IsFindRay (p : PlanParts) (rs : List SourceResult) (r : PairRay) : Type 0 where
   pub order : r.pair.a < r.pair.b
   pub within : r.pair.b < p.sectors
-  pub ray : IsRayOf rs r
+  pub ray : IsRayOfResults rs r
 
 pub reached_by : (p : PlanParts) (rs : List SourceResult) → AreResults p rs → (k : ℕ) (w : SourceResult) (x : Reached) → slice_get rs k ≡ Some w → Contains w.found x → IsReachedFrom p k x
 reached_by p rs are k w x h c = let get = get_of_contains w.found x c.0 c.1 c.2 in subst (λ (y : Reached). IsReachedFrom p k y) c.2 ((are.each k w h).found.each c.0 x c.1)
@@ -157,7 +157,7 @@ find_ray p rs are k w x r h c e =
       | inr down ↦ subst (λ (s : PairRay). IsFindRay p rs s) (sym (toward_down k x down) ∙ by) (record { order = down; within = in'; ray = inr (x.ray, (w, x, h, c, refl, refl), refl) })
     ]
 
-pub found_of_ray : (rs : List SourceResult) (r : PairRay) → IsRayOf rs r → AreFound rs r.pair.a r.pair.b
+pub found_of_ray : (rs : List SourceResult) (r : PairRay) → IsRayOfResults rs r → AreFound rs r.pair.a r.pair.b
 found_of_ray rs r (inl h) = inl (r.ray, h)
 found_of_ray rs r (inr h) = inr (h.0, h.1)
 
@@ -174,7 +174,7 @@ module _ (p : PlanParts) (rs : List SourceResult) (are : AreResults p rs) (rays 
       subst (λ (s : PairRay). HasRayFor rays s.pair.a s.pair.b) at (g.pairs (toward w.source x) (has_source rs a w x h c))
   pair_of_find a b lt (inr (ray, (w, x, h, c, to, is))) =
       let from : w.source ≡ b = (are.each b w h).source_is in
-      let at : toward w.source x ≡ record { pair = record { a = a; b = b }; ray = turned x.ray } = (ap (λ (s : ℕ). toward s x) from ∙ toward_down b x (subst (λ (n : ℕ). n < b) (sym to) lt)) ∙ ap (λ (n : ℕ). record { pair = record { a = n; b = b }; ray = turned x.ray }) to in
+      let at : toward w.source x ≡ record { pair = record { a = a; b = b }; ray = turned_ray x.ray } = (ap (λ (s : ℕ). toward s x) from ∙ toward_down b x (subst (λ (n : ℕ). n < b) (sym to) lt)) ∙ ap (λ (n : ℕ). record { pair = record { a = n; b = b }; ray = turned_ray x.ray }) to in
       subst (λ (s : PairRay). HasRayFor rays s.pair.a s.pair.b) at (g.pairs (toward w.source x) (has_source rs b w x h c))
 
   -- each ray is that of a find

@@ -8,9 +8,9 @@ use Rattle.sight_names.specs.declared.names.PairRay.{PairRay}
 use Rattle.sight_names.specs.Plan.{PlanParts}
 use Rattle.reject_bits.specs.Parts.{TableParts, Rejects, SetsPair, KeepsOtherPairs, HasOtherBits}
 use Rattle.pair_budget.specs.declared.results.SourceResult.{SourceResult}
-use Rattle.pair_budget.specs.Decide.{AreFound, IsListedPair, IsBlind, DecidesTable, DecidesList, DecidesRays}
-use Rattle.pair_budget.specs.Rows.{IsMarked, AreNamed}
-use Rattle.pair_budget.specs.Opened.{IsPairOf, OpensPair, HasBefore, OpensBefore, OpensNamed}
+use Rattle.pair_budget.specs.Decide.{AreFound, IsLeftUndecided, IsBlind, DecidesTable, DecidesList, DecidesRays}
+use Rattle.pair_budget.specs.Rows.{IsSectorMarked, AreNamed}
+use Rattle.pair_budget.specs.Opened.{IsPairOfTwo, OpensPair, HasBefore, OpensBefore, OpensNamed}
 use Rattle.pair_budget.proofs.FoundSectorsLaws.{found_of_ray, same_or_other, turned_found}
 
 -- ---- one pair
@@ -32,8 +32,8 @@ pair_opened p old mid new sets keeps sets_back keeps_back = record {
   bits = λ c d lc ld.
       let x = set_one old mid p.a p.b sets keeps c d lc ld in
       let y = set_one mid new p.b p.a sets_back keeps_back c d (subst (λ (n : ℕ). c < n) (sym sets.sectors) lc) (subst (λ (n : ℕ). d < n) (sym sets.sectors) ld) in (
-        λ r. elim (y.0 r) as (λ _. Rejects old c d ⊎ IsPairOf p c d) [
-          | inl m ↦ elim (x.0 m) as (λ _. Rejects old c d ⊎ IsPairOf p c d) [ inl o ↦ inl o | inr w ↦ inr (inl w) ]
+        λ r. elim (y.0 r) as (λ _. Rejects old c d ⊎ IsPairOfTwo p c d) [
+          | inl m ↦ elim (x.0 m) as (λ _. Rejects old c d ⊎ IsPairOfTwo p c d) [ inl o ↦ inl o | inr w ↦ inr (inl w) ]
           | inr w ↦ inr (inr w)
         ],
         λ h. elim h as (λ _. Rejects new c d) [
@@ -63,7 +63,7 @@ module _ (X : Type 0) (pair : X → Pair) (xs : List X) where
             | inl k ↦ o.1 (inl (b.1 (inl k)))
             | inr w ↦ elim (below_or_last w.0 n w.2) as (λ _. Rejects new c d) [
               | inl lt ↦ o.1 (inl (b.1 (inr (w.0, w.1, lt, w.3, w.4))))
-              | inr e ↦ o.1 (inr (subst (λ (y : X). IsPairOf (pair y) c d) (same_Some w.1 x (sym w.3 ∙ (ap (slice_get xs) e ∙ there))) w.4))
+              | inr e ↦ o.1 (inr (subst (λ (y : X). IsPairOfTwo (pair y) c d) (same_Some w.1 x (sym w.3 ∙ (ap (slice_get xs) e ∙ there))) w.4))
             ]
           ],
         );
@@ -90,7 +90,7 @@ module _ (p : PlanParts) (named : List Bool) (rays : List PairRay) (listed : Lis
     (by_name : OpensNamed named (length named) zero_table first) (by_ray : OpensBefore PairRay (λ r. r.pair) rays (length rays) first second) (by_list : OpensBefore Pair (λ q. q) listed (length listed) second third) (others : HasOtherBits third t) where
   -- what is set before the bits are turned round
   abbrev IsOpen : ℕ → ℕ → Type 0
-  IsOpen c d = (((c ≡ d) × (c < length named) × IsMarked named c) ⊎ HasBefore PairRay (λ r. r.pair) rays (length rays) c d) ⊎ HasBefore Pair (λ q. q) listed (length listed) c d
+  IsOpen c d = (((c ≡ d) × (c < length named) × IsSectorMarked named c) ⊎ HasBefore PairRay (λ r. r.pair) rays (length rays) c d) ⊎ HasBefore Pair (λ q. q) listed (length listed) c d
 
   low : (c n : ℕ) → n ≡ p.sectors → c < p.sectors → c < n
   low c n e lt = subst (λ (u : ℕ). c < u) (sym e) lt
@@ -118,27 +118,27 @@ module _ (p : PlanParts) (named : List Bool) (rays : List PairRay) (listed : Lis
     has_ray : (c d : ℕ) → c < p.sectors → d < p.sectors → c ≢ d → AreFound rs c d → HasBefore PairRay (λ r. r.pair) rays (length rays) c d
     has_ray c d lc ld differ found = elim (below_same_or_above c d) as (λ _. HasBefore PairRay (λ r. r.pair) rays (length rays) c d) [
       | inl lt ↦ (let h = by_rays.all c d lt ld found in
-          let i = h.1 in (i.0, h.0, i.1, get_of_contains rays h.0 i.0 i.1 i.2, subst (λ (q : Pair). IsPairOf q c d) (sym h.2) (inl (refl, refl))))
+          let i = h.1 in (i.0, h.0, i.1, get_of_contains rays h.0 i.0 i.1 i.2, subst (λ (q : Pair). IsPairOfTwo q c d) (sym h.2) (inl (refl, refl))))
       | inr (inl e) ↦ absurd (differ e)
       | inr (inr gt) ↦ (let h = by_rays.all d c gt lc (turned_found rs c d found) in
-          let i = h.1 in (i.0, h.0, i.1, get_of_contains rays h.0 i.0 i.1 i.2, subst (λ (q : Pair). IsPairOf q c d) (sym h.2) (inr (refl, refl))))
+          let i = h.1 in (i.0, h.0, i.1, get_of_contains rays h.0 i.0 i.1 i.2, subst (λ (q : Pair). IsPairOfTwo q c d) (sym h.2) (inr (refl, refl))))
     ]
 
-    has_listed : (q : Pair) (c d : ℕ) → Contains listed q → IsPairOf q c d → HasBefore Pair (λ q. q) listed (length listed) c d
+    has_listed : (q : Pair) (c d : ℕ) → Contains listed q → IsPairOfTwo q c d → HasBefore Pair (λ q. q) listed (length listed) c d
     has_listed q c d i of = (i.0, q, i.1, get_of_contains listed q i.0 i.1 i.2, of)
 
     -- a pair with a smaller sector is of two
-    two : (q : Pair) (c d : ℕ) → q.a < q.b → IsPairOf q c d → c ≢ d
+    two : (q : Pair) (c d : ℕ) → q.a < q.b → IsPairOfTwo q c d → c ≢ d
     two q c d lt (inl h) e = let x = h.0 in let y = h.1 in omega (arith, x, y, e, lt)
     two q c d lt (inr h) e = let x = h.0 in let y = h.1 in omega (arith, x, y, e, lt)
 
-    found_of : (q : Pair) (c d : ℕ) → AreFound rs q.a q.b → IsPairOf q c d → AreFound rs c d
+    found_of : (q : Pair) (c d : ℕ) → AreFound rs q.a q.b → IsPairOfTwo q c d → AreFound rs c d
     found_of q c d f (inl h) = subst (λ (u : ℕ). AreFound rs c u) (sym h.1) (subst (λ (u : ℕ). AreFound rs u q.b) (sym h.0) f)
     found_of q c d f (inr h) = subst (λ (u : ℕ). AreFound rs c u) (sym h.1) (subst (λ (u : ℕ). AreFound rs u q.a) (sym h.0) (turned_found rs q.a q.b f))
 
-    listed_of : (q : Pair) (c d : ℕ) → IsListedPair rs components q.a q.b → IsPairOf q c d → IsListedPair rs components c d ⊎ IsListedPair rs components d c
-    listed_of q c d l (inl h) = inl (subst (λ (u : ℕ). IsListedPair rs components c u) (sym h.1) (subst (λ (u : ℕ). IsListedPair rs components u q.b) (sym h.0) l))
-    listed_of q c d l (inr h) = inr (subst (λ (u : ℕ). IsListedPair rs components d u) (sym h.0) (subst (λ (u : ℕ). IsListedPair rs components u q.b) (sym h.1) l))
+    listed_of : (q : Pair) (c d : ℕ) → IsLeftUndecided rs components q.a q.b → IsPairOfTwo q c d → IsLeftUndecided rs components c d ⊎ IsLeftUndecided rs components d c
+    listed_of q c d l (inl h) = inl (subst (λ (u : ℕ). IsLeftUndecided rs components c u) (sym h.1) (subst (λ (u : ℕ). IsLeftUndecided rs components u q.b) (sym h.0) l))
+    listed_of q c d l (inr h) = inr (subst (λ (u : ℕ). IsLeftUndecided rs components d u) (sym h.0) (subst (λ (u : ℕ). IsLeftUndecided rs components u q.b) (sym h.1) l))
 
     to : (c d : ℕ) → c < p.sectors → d < p.sectors → ¬ IsOpen c d → IsBlind p rs components c d
     to c d lc ld closed = elim (below_same_or_above c d) as (λ _. IsBlind p rs components c d) [

@@ -14,13 +14,13 @@ pub record FoundSectorsParts : Type 0 where
   pub found : List Reached
 
 -- each sector that was found has its mark
-abbrev pub AreMarked : List Bool → List Reached → Type 0
-AreMarked seen found = (k : ℕ) (r : Reached) → slice_get found k ≡ Some r → slice_get seen r.to ≡ Some true
+abbrev pub AreFoundMarked : List Bool → List Reached → Type 0
+AreFoundMarked seen found = (k : ℕ) (r : Reached) → slice_get found k ≡ Some r → slice_get seen r.to ≡ Some true
 
 pub record AreFoundSectors (f : FoundSectorsParts) (seen : List Bool) : Type 0 where
   pub one_each : length seen ≡ f.plan.sectors
   pub reached : AreReached f.plan f.source f.found
-  pub marked : AreMarked seen f.found
+  pub marked : AreFoundMarked seen f.found
   pub only : (b : ℕ) → slice_get seen b ≡ Some true → IsFound f.found b
 
 -- the same plan and source, and no sector is lost

@@ -8,7 +8,7 @@ use Rattle.sight_names.specs.declared.names.PairRay.{PairRay}
 use Rattle.reject_bits.specs.Parts.{TableParts, Rejects}
 use Rattle.pair_budget.specs.declared.results.Reached.{Reached}
 use Rattle.pair_budget.specs.declared.results.SourceResult.{SourceResult}
-use Rattle.pair_budget.specs.Decide.{turned}
+use Rattle.pair_budget.specs.Decide.{turned_ray}
 
 -- a number of sectors, and rays between them
 pub record PairRaysParts : Type 0 where
@@ -20,17 +20,17 @@ abbrev pub HasRayFor : List PairRay → ℕ → ℕ → Type 0
 HasRayFor rays a b = (r : PairRay) × Contains rays r × (r.pair ≡ record { a = a; b = b })
 
 -- the bits of the table are those of the rays' pairs
-pub record AreMarked (t : TableParts) (rays : List PairRay) : Type 0 where
+pub record AreRayPairsMarked (t : TableParts) (rays : List PairRay) : Type 0 where
   pub bits : (a b : ℕ) → a < t.n → b < t.n → Rejects t a b ↔ HasRayFor rays a b
 
 -- the ray is added where its pair isn't there yet
-pub record IsNoted (ray : PairRay) (old new : PairRaysParts) : Type 0 where
+pub record IsRayNoted (ray : PairRay) (old new : PairRaysParts) : Type 0 where
   pub sectors : new.sectors ≡ old.sectors
   pub rays : (HasRayFor old.rays ray.pair.a ray.pair.b × (new.rays ≡ old.rays)) ⊎ (¬ HasRayFor old.rays ray.pair.a ray.pair.b × (new.rays ≡ old.rays ++ ray ∷ []))
 
 -- the ray of a sector that the source found, from the smaller of the two to the larger
 abbrev pub toward : ℕ → Reached → PairRay
-toward source r = if nat_lt source r.to then record { pair = record { a = source; b = r.to }; ray = r.ray } else record { pair = record { a = r.to; b = source }; ray = turned r.ray }
+toward source r = if nat_lt source r.to then record { pair = record { a = source; b = r.to }; ray = r.ray } else record { pair = record { a = r.to; b = source }; ray = turned_ray r.ray }
 
 -- the rays of all sectors that were found, in the order of the sources
 abbrev pub all_rays : List SourceResult → List PairRay

@@ -1,7 +1,7 @@
 //! The pairs of which one found the other, each once, with a ray from its smaller sector to its larger one.
 
 ghost use Rattle.std.specs.Prelude.{◌≡◌, ◌<◌, ◌↔◌, IsTrue, IfOk, OnOk, []};
-ghost use Rattle.pair_budget.specs.PairRays.{HasRayFor, IsNoted};
+ghost use Rattle.pair_budget.specs.PairRays.{HasRayFor, IsRayNoted};
 
 use reject_bits::Table;
 use sight_names::{Memory, PairRay};
@@ -16,13 +16,13 @@ pub struct PairRays {
 }
 
 impl Model for PairRays {
-    ghost use Rattle.pair_budget.specs.PairRays.{PairRaysParts, AreMarked};
+    ghost use Rattle.pair_budget.specs.PairRays.{PairRaysParts, AreRayPairsMarked};
 
     ghost Value = { PairRaysParts };
 
     ghost view = { λ f. record { sectors = f.seen.n; rays = f.rays.items } };
 
-    ghost invariant = { λ f. AreMarked f.seen f.rays.items };
+    ghost invariant = { λ f. AreRayPairsMarked f.seen f.rays.items };
 }
 
 impl PairRays {
@@ -40,7 +40,7 @@ impl PairRays {
     pub fn note(&mut self, ray: PairRay) -> Result<(), Memory>
         requires first { ray.pair.a < self.old.sectors }
         requires second { ray.pair.b < self.old.sectors }
-        ensures { OnOk result (IsNoted ray self.old self.new) }
+        ensures { OnOk result (IsRayNoted ray self.old self.new) }
     {
         if !self.seen.rejects(ray.pair.a, ray.pair.b) {
             self.rays.push(ray)?;

@@ -17,12 +17,12 @@ ghost use Rattle.portal_walk.specs.Sides.{ArrivesAt};
 ghost use Rattle.portal_walk.specs.Walk.{IsTop, TellsLine, pending};
 ghost use Rattle.pair_budget.specs.declared.results.Outcome.TheVariants as outcome;
 ghost use Rattle.pair_budget.specs.declared.results.Reached.{Reached as ReachedSector};
-ghost use Rattle.pair_budget.specs.Exact.{IsExact, IsWholly};
+ghost use Rattle.pair_budget.specs.Exact.{IsOutcomeExact, IsWholly};
 ghost use Rattle.pair_budget.specs.FoundSectors.{Extends};
-ghost use Rattle.pair_budget.specs.Notes.{ordered, Grows};
-ghost use Rattle.pair_budget.specs.Through.{AreThrough, IsAt, IsRayOfStep, IsRayTo};
+ghost use Rattle.pair_budget.specs.Notes.{ordered, EntriesGrow};
+ghost use Rattle.pair_budget.specs.Through.{AreThrough, StandsOutside, IsRayOfStep, IsRayToSide};
 ghost use Rattle.pair_budget.specs.Walked.{AreReached, IsOutcome, IsReachedFrom, MarksFound};
-ghost use Rattle.pair_budget.specs.Whole.{IsFound, IsShown};
+ghost use Rattle.pair_budget.specs.Whole.{IsFound, ShowsIfComplete};
 
 use crate::budget_left::BudgetLeft;
 use crate::found_sectors::FoundSectors;
@@ -57,18 +57,18 @@ pub fn walk_source<N: Notice>(
     ensures source { IfOk result (λ r. r.source ≡ source) }
     ensures found { IfOk result (λ r. AreReached plan.now source r.found) }
     ensures outcome { IfOk result (λ r. IsOutcome source budget (N.may_settle notice.old) r.outcome) }
-    ensures exact { IfOk result (λ r. IsExact (map_of plan.now) mesh.now.triangles labels.now source budget r.found r.outcome) }
+    ensures exact { IfOk result (λ r. IsOutcomeExact (map_of plan.now) mesh.now.triangles labels.now source budget r.found r.outcome) }
     ensures alone { N.may_settle notice.old ≡ false → IfOk result (λ r. IsWholly (map_of plan.now) mesh.now.triangles labels.now source budget r.found r.outcome) }
     ensures rays { IfOk result (λ r. AreThrough plan.now mesh.now.triangles labels.now source r.found) }
-    ensures shown { IfOk result (λ r. IsShown plan.now mesh.now.triangles labels.now r.found r.outcome) }
+    ensures shown { IfOk result (λ r. ShowsIfComplete plan.now mesh.now.triangles labels.now r.found r.outcome) }
     ensures mates { IfOk result (λ r. r.outcome ≡ outcome.All → (b : ℕ) → N.mates notice.old source b → Contains (N.seen notice.new) (ordered source b)) }
     ensures tag { N.tag notice.new ≡ N.tag notice.old }
     ensures marks { IfOk result (λ r. MarksFound source r.found (N.marks notice.old) (N.marks notice.new)) }
-    ensures kept { Grows (N.marks notice.old) (N.marks notice.new) }
+    ensures kept { EntriesGrow (N.marks notice.old) (N.marks notice.new) }
     ensures claims { N.claims notice.new ≡ N.claims notice.old }
     ensures settles { N.may_settle notice.new ≡ N.may_settle notice.old }
-    ensures seen { Grows (N.seen notice.old) (N.seen notice.new) }
-    ensures looks { Grows (N.looks notice.old) (N.looks notice.new) }
+    ensures seen { EntriesGrow (N.seen notice.old) (N.seen notice.new) }
+    ensures looks { EntriesGrow (N.looks notice.old) (N.looks notice.new) }
 {
     let terrain = Terrain::of(alloc, plan, mesh, labels)?;
     walk_source_over(alloc, plan, mesh, labels, &terrain, source, budget, notice)
@@ -98,18 +98,18 @@ pub fn walk_source_over<N: Notice>(
     ensures source { IfOk result (λ r. r.source ≡ source) }
     ensures found { IfOk result (λ r. AreReached plan.now source r.found) }
     ensures outcome { IfOk result (λ r. IsOutcome source budget (N.may_settle notice.old) r.outcome) }
-    ensures exact { IfOk result (λ r. IsExact (map_of plan.now) mesh.now.triangles labels.now source budget r.found r.outcome) }
+    ensures exact { IfOk result (λ r. IsOutcomeExact (map_of plan.now) mesh.now.triangles labels.now source budget r.found r.outcome) }
     ensures alone { N.may_settle notice.old ≡ false → IfOk result (λ r. IsWholly (map_of plan.now) mesh.now.triangles labels.now source budget r.found r.outcome) }
     ensures rays { IfOk result (λ r. AreThrough plan.now mesh.now.triangles labels.now source r.found) }
-    ensures shown { IfOk result (λ r. IsShown plan.now mesh.now.triangles labels.now r.found r.outcome) }
+    ensures shown { IfOk result (λ r. ShowsIfComplete plan.now mesh.now.triangles labels.now r.found r.outcome) }
     ensures mates { IfOk result (λ r. r.outcome ≡ outcome.All → (b : ℕ) → N.mates notice.old source b → Contains (N.seen notice.new) (ordered source b)) }
     ensures tag { N.tag notice.new ≡ N.tag notice.old }
     ensures marks { IfOk result (λ r. MarksFound source r.found (N.marks notice.old) (N.marks notice.new)) }
-    ensures kept { Grows (N.marks notice.old) (N.marks notice.new) }
+    ensures kept { EntriesGrow (N.marks notice.old) (N.marks notice.new) }
     ensures claims { N.claims notice.new ≡ N.claims notice.old }
     ensures settles { N.may_settle notice.new ≡ N.may_settle notice.old }
-    ensures seen { Grows (N.seen notice.old) (N.seen notice.new) }
-    ensures looks { Grows (N.looks notice.old) (N.looks notice.new) }
+    ensures seen { EntriesGrow (N.seen notice.old) (N.seen notice.new) }
+    ensures looks { EntriesGrow (N.looks notice.old) (N.looks notice.new) }
 {
     let mut found_sectors = FoundSectors::new(alloc, plan, source)?;
     if notice.settled(source) {
@@ -153,17 +153,17 @@ fn walk_on<N: Notice>(
     requires hears { (b : ℕ) → b ≢ walker.source → b < walker.plan.sectors → Found (map_of walker.plan) walker.mesh.triangles walker.labels walker.source b budget → N.may_hear notice.old (ordered source b) }
     ensures found_sectors { Extends found_sectors.old found_sectors.new }
     ensures outcome { IfOk result (λ o. IsOutcome source budget (N.may_settle notice.old) o) }
-    ensures exact { IfOk result (λ o. IsExact (map_of walker.entry.plan) walker.entry.mesh.triangles walker.entry.labels walker.entry.source budget found_sectors.new.found o) }
+    ensures exact { IfOk result (λ o. IsOutcomeExact (map_of walker.entry.plan) walker.entry.mesh.triangles walker.entry.labels walker.entry.source budget found_sectors.new.found o) }
     ensures rays { IfOk result (λ _. AreThrough walker.entry.plan walker.entry.mesh.triangles walker.entry.labels walker.entry.source found_sectors.new.found) }
-    ensures shown { IfOk result (λ o. IsShown walker.entry.plan walker.entry.mesh.triangles walker.entry.labels found_sectors.new.found o) }
+    ensures shown { IfOk result (λ o. ShowsIfComplete walker.entry.plan walker.entry.mesh.triangles walker.entry.labels found_sectors.new.found o) }
     ensures mates { IfOk result (λ o. o ≡ outcome.All → (b : ℕ) → N.mates notice.old source b → Contains (N.seen notice.new) (ordered source b)) }
     ensures tag { N.tag notice.new ≡ N.tag notice.old }
     ensures marks { MarksFound source found_sectors.new.found (N.marks notice.old) (N.marks notice.new) }
-    ensures kept { Grows (N.marks notice.old) (N.marks notice.new) }
+    ensures kept { EntriesGrow (N.marks notice.old) (N.marks notice.new) }
     ensures claims { N.claims notice.new ≡ N.claims notice.old }
     ensures settles { N.may_settle notice.new ≡ N.may_settle notice.old }
-    ensures seen { Grows (N.seen notice.old) (N.seen notice.new) }
-    ensures looks { Grows (N.looks notice.old) (N.looks notice.new) }
+    ensures seen { EntriesGrow (N.seen notice.old) (N.seen notice.new) }
+    ensures looks { EntriesGrow (N.looks notice.old) (N.looks notice.new) }
 {
     let mut left = BudgetLeft::of(budget);
     loop {
@@ -195,12 +195,12 @@ fn newly_reached(
     is_line: bool,
 ) -> Option<Reached>
     requires labels { walker.now.labels ≡ labels.now }
-    requires at { (edge : HalfEdgeOf) × IsAt walker.now edge }
+    requires at { (edge : HalfEdgeOf) × StandsOutside walker.now edge }
     requires splittable { IsSplittable walker.now.ends }
     requires line { TellsLine walker.now is_line }
     ensures reached { IfSome result (λ reached. IsReachedFrom walker.now.plan walker.now.source reached) }
     ensures label { (edge : HalfEdgeOf) → IsTop walker.now edge → IfSome result (λ reached. label_of labels.now edge.triangle ≡ Given reached.to) }
-    ensures ray { (edge : HalfEdgeOf) → IsTop walker.now edge → IfSome result (IsRayTo walker.now edge.entered) }
+    ensures ray { (edge : HalfEdgeOf) → IsTop walker.now edge → IfSome result (IsRayToSide walker.now edge.entered) }
     ensures given { (edge : HalfEdgeOf) (sector : ℕ) → IsTop walker.now edge → label_of labels.now edge.triangle ≡ Given sector → IsSome walker.now.root → IsSome edge.entered → IsSome result ⊎ IsFound found_sectors.now.found sector }
 {
     if !is_line {
@@ -261,7 +261,7 @@ fn note<N: Notice>(
     ensures found_sectors { Extends found_sectors.old found_sectors.new }
     ensures tag { N.tag notice.new ≡ N.tag notice.old }
     ensures marks { MarksFound source found_sectors.new.found (N.marks notice.old) (N.marks notice.new) }
-    ensures kept { Grows (N.marks notice.old) (N.marks notice.new) }
+    ensures kept { EntriesGrow (N.marks notice.old) (N.marks notice.new) }
     ensures hears { (p : ℕ × ℕ) → N.may_hear notice.old p → N.may_hear notice.new p }
     ensures claims { N.claims notice.new ≡ N.claims notice.old }
     ensures settles { N.may_settle notice.new ≡ N.may_settle notice.old }
@@ -270,8 +270,8 @@ fn note<N: Notice>(
     ensures only { IfOk result (λ _. (r : ReachedSector) → Contains found_sectors.new.found r → Contains found_sectors.old.found r ⊎ (reached ≡ Given r)) }
     ensures done { IfOk result (λ done. done ≡ true → (b : ℕ) → N.mates notice.old source b → Contains (N.seen notice.new) (ordered source b)) }
     ensures mates { (x y : ℕ) → N.mates notice.old x y → N.mates notice.new x y }
-    ensures seen { Grows (N.seen notice.old) (N.seen notice.new) }
-    ensures looks { Grows (N.looks notice.old) (N.looks notice.new) }
+    ensures seen { EntriesGrow (N.seen notice.old) (N.seen notice.new) }
+    ensures looks { EntriesGrow (N.looks notice.old) (N.looks notice.new) }
 {
     let Some(reached) = reached else {
         return Ok(false);

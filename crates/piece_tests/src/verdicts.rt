@@ -4,7 +4,7 @@
 ghost use Rattle.std.specs.Prelude.{◌≡◌, ◌+◌, ◌<◌, ◌≤◌, ◌^◌, length, IfOk, IsTrue};
 ghost use Rattle.sight_names.specs.Map.{map_of};
 ghost use Rattle.sight_names.specs.Sound.{LinesMeetAtEnds};
-ghost use Rattle.cert_format.specs.CertGroups.Grammar.{IsAnyInOrder, sizes_of};
+ghost use Rattle.cert_format.specs.CertGroups.Grammar.{IsAnyInOrder, sizes_of_listing};
 
 use crate::exact_rows::{CUT, JUDGED, UNREAD, WHOLE};
 use crate::plans::plan_of;
@@ -157,7 +157,7 @@ fn small(number: usize) -> u16 {
 
 // The sizes of the map that the certificate is about.
 fn sizes_in(cert: &AnyCert) -> Sizes
-    ensures { result ≡ sizes_of cert.now }
+    ensures { result ≡ sizes_of_listing cert.now }
 {
     match cert {
         AnyCert::One(one) => one.sizes,
@@ -167,9 +167,9 @@ fn sizes_in(cert: &AnyCert) -> Sizes
 
 // Whether it is about a map with as many sectors, points and lines.
 fn is_about(plan: &Plan, cert: &AnyCert) -> bool
-    ensures sectors { IsTrue result → (sizes_of cert.now).sectors ≡ plan.now.sectors }
-    ensures points { IsTrue result → (sizes_of cert.now).points ≡ length plan.now.points }
-    ensures lines { IsTrue result → (sizes_of cert.now).lines ≡ length plan.now.lines }
+    ensures sectors { IsTrue result → (sizes_of_listing cert.now).sectors ≡ plan.now.sectors }
+    ensures points { IsTrue result → (sizes_of_listing cert.now).points ≡ length plan.now.points }
+    ensures lines { IsTrue result → (sizes_of_listing cert.now).lines ≡ length plan.now.lines }
 {
     let sizes = sizes_in(cert);
     sizes.sectors == plan.sectors

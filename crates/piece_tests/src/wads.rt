@@ -3,7 +3,7 @@
 ghost use Rattle.std.specs.Prelude.{◌≡◌, ◌+◌, ◌≤◌, length, All, IfOk};
 ghost use Rattle.wad_dir.specs.Map.{entry_names};
 ghost use Rattle.wad_dir.specs.AllMaps.All.{HasInOrder, names_changed};
-ghost use Rattle.wad_dir.specs.AllMaps.Maps.{maps_of};
+ghost use Rattle.wad_dir.specs.AllMaps.Maps.{maps_in_names};
 
 use sight_names::{Items, RewriteFault};
 use std::alloc::{AllocError, Global};
@@ -77,7 +77,7 @@ fn rewritten(
     given: &str,
 ) -> Result<Vec<u8>, RewriteFault>
     requires inside { All (λ entry. entry.at + entry.size ≤ length bytes.now) wad.now.entries }
-    requires names { names.now ≡ maps_of (entry_names wad.now.entries) }
+    requires names { names.now ≡ maps_in_names (entry_names wad.now.entries) }
 {
     let changes = changes_of(alloc, names, given)?;
     with_rejects(alloc, bytes, wad, changes.as_slice())

@@ -6,7 +6,7 @@ use Rattle.math_base.proofs.IntLaws.{neg-*ℤ}
 use Rattle.math_base.proofs.Quoting.{quoting, by_ring}
 use Rattle.math_base.proofs.Signs.{mul-pos, mul-nonneg, pos-of-mul, nonneg-of-mul, zero-of-mul, mul-le, le-of-mul, le_or_lt, square-nonneg}
 use Rattle.math_base.proofs.MoreSigns.{sum-pos}
-use Rattle.plane_base.specs.Arrows.{Arrow, cross, dot, IsOnRay, IsBetween}
+use Rattle.plane_base.specs.Arrows.{Arrow, cross, dot, IsOnRay, IsArrowBetween}
 use Rattle.math_base.proofs.Small.{zero_by_second, zero_by_first, zero_of_square}
 
 pub turned : (u v : Arrow) → cross v u ≡ neg_ℤ (cross u v)
@@ -67,7 +67,7 @@ above : (a b : ℤ) → pos 0 <ℤ a → a ≤ℤ b → pos 0 <ℤ b
 above a b h k = omega (arith, ints)
 
 -- ---- a ray becomes an angle
-pub ray_to_left : (d g e : Arrow) → pos 0 <ℤ dot d d → pos 0 <ℤ cross d g → IsOnRay d e → IsBetween d g e
+pub ray_to_left : (d g e : Arrow) → pos 0 <ℤ dot d d → pos 0 <ℤ cross d g → IsOnRay d e → IsArrowBetween d g e
 ray_to_left d g e hd h a =
     let ahead = above (dot d d) (dot d e) hd a.far in
     let s = split_along d e g in
@@ -77,7 +77,7 @@ ray_to_left d g e hd h a =
     let l = a.level in
     record { after = omega (arith, ints); before = omega (arith, ints); far_after = λ _. a.far; far_before = λ w. absurd (omega (arith, ints, k, w)) }
 
-pub ray_to_right : (d g e : Arrow) → pos 0 <ℤ dot d d → cross d g <ℤ pos 0 → IsOnRay d e → IsBetween g d e
+pub ray_to_right : (d g e : Arrow) → pos 0 <ℤ dot d d → cross d g <ℤ pos 0 → IsOnRay d e → IsArrowBetween g d e
 ray_to_right d g e hd h a =
     let ahead = above (dot d d) (dot d e) hd a.far in
     let s = split_along d g e in
@@ -103,7 +103,7 @@ ray_to_nearer d g e hd c h n a =
     record { level = zero-of-mul (dot d d) (cross g e) hd (omega (arith, ints)); far = le-of-mul (dot d d) (dot g g) (dot g e) hd (omega (arith, ints)) }
 
 -- ---- an angle is widened
-pub proper : (d f e : Arrow) → pos 0 <ℤ dot d d → pos 0 <ℤ cross d f → IsBetween d f e → pos 0 <ℤ (cross d e +ℤ cross e f)
+pub proper : (d f e : Arrow) → pos 0 <ℤ dot d d → pos 0 <ℤ cross d f → IsArrowBetween d f e → pos 0 <ℤ (cross d e +ℤ cross e f)
 proper d f e hd hD b = elim (le_or_lt (cross d e) (pos 0)) as (λ _. pos 0 <ℤ (cross d e +ℤ cross e f)) [
   | inr h ↦ let k = b.before in omega (arith, ints)
   | inl h ↦ elim (le_or_lt (cross e f) (pos 0)) as (λ _. pos 0 <ℤ (cross d e +ℤ cross e f)) [
@@ -122,7 +122,7 @@ proper d f e hd hD b = elim (le_or_lt (cross d e) (pos 0)) as (λ _. pos 0 <ℤ 
   ]
 ]
 
-pub wider_second : (d f g e : Arrow) → pos 0 <ℤ dot d d → pos 0 <ℤ cross d f → pos 0 <ℤ cross d g → cross g f <ℤ pos 0 → IsBetween d f e → IsBetween d g e
+pub wider_second : (d f g e : Arrow) → pos 0 <ℤ dot d d → pos 0 <ℤ cross d f → pos 0 <ℤ cross d g → cross g f <ℤ pos 0 → IsArrowBetween d f e → IsArrowBetween d g e
 wider_second d f g e hd hD h1 h2 b =
     let s = split_by d f e g in
     let t = turned g f in
@@ -131,7 +131,7 @@ wider_second d f g e hd hD h1 h2 b =
     let k : pos 0 <ℤ cross e g = pos-of-mul (cross d f) (cross e g) hD (omega (arith, ints)) in
     record { after = b.after; before = omega (arith, ints); far_after = b.far_after; far_before = λ w. absurd (omega (arith, ints, k, w)) }
 
-pub nearer_second : (d f g e : Arrow) → pos 0 <ℤ dot f f → pos 0 <ℤ cross d f → pos 0 <ℤ cross d g → cross g f ≡ pos 0 → dot f g ≤ℤ dot f f → IsBetween d f e → IsBetween d g e
+pub nearer_second : (d f g e : Arrow) → pos 0 <ℤ dot f f → pos 0 <ℤ cross d f → pos 0 <ℤ cross d g → cross g f ≡ pos 0 → dot f g ≤ℤ dot f f → IsArrowBetween d f e → IsArrowBetween d g e
 nearer_second d f g e hf hD h1 c n b =
     let t = turned g f in
     let c' : cross f g ≡ pos 0 = omega (arith, ints) in
@@ -178,7 +178,7 @@ mirror_dot : (u v : Arrow) → dot (mirror u) (mirror v) ≡ dot u v
 unfolding dot
 mirror_dot u v = by_ring (u.x ∷ u.y ∷ v.x ∷ v.y ∷ []) _ _ (search quoting depth 40 fits 100000) (search quoting depth 40 fits 100000) tt
 
-mirrored : (d f e : Arrow) → IsBetween d f e → IsBetween (mirror f) (mirror d) (mirror e)
+mirrored : (d f e : Arrow) → IsArrowBetween d f e → IsArrowBetween (mirror f) (mirror d) (mirror e)
 mirrored d f e b =
     let u = mirror_cross f e in
     let v = mirror_cross e d in
@@ -191,21 +191,21 @@ mirrored d f e b =
       far_before = λ w. let k = b.far_after (sym v ∙ w) in let p = mirror_dot d d in let q = mirror_dot d e in omega (arith, ints);
     }
 
-pub wider_first : (d f g e : Arrow) → pos 0 <ℤ dot f f → pos 0 <ℤ cross d f → cross d g <ℤ pos 0 → pos 0 <ℤ cross g f → IsBetween d f e → IsBetween g f e
+pub wider_first : (d f g e : Arrow) → pos 0 <ℤ dot f f → pos 0 <ℤ cross d f → cross d g <ℤ pos 0 → pos 0 <ℤ cross g f → IsArrowBetween d f e → IsArrowBetween g f e
 wider_first d f g e hf hD h1 h2 b =
     let p = mirror_dot f f in let q = mirror_cross f d in let r = mirror_cross f g in let s = mirror_cross g d in
     mirrored (mirror f) (mirror g) (mirror e) (wider_second (mirror f) (mirror d) (mirror g) (mirror e) (omega (arith, ints)) (omega (arith, ints)) (omega (arith, ints)) (omega (arith, ints)) (mirrored d f e b))
 
-pub nearer_first : (d f g e : Arrow) → pos 0 <ℤ dot d d → pos 0 <ℤ cross d f → cross d g ≡ pos 0 → pos 0 <ℤ cross g f → dot d g ≤ℤ dot d d → IsBetween d f e → IsBetween g f e
+pub nearer_first : (d f g e : Arrow) → pos 0 <ℤ dot d d → pos 0 <ℤ cross d f → cross d g ≡ pos 0 → pos 0 <ℤ cross g f → dot d g ≤ℤ dot d d → IsArrowBetween d f e → IsArrowBetween g f e
 nearer_first d f g e hd hD c h2 n b =
     let p = mirror_dot d d in let q = mirror_cross f d in let r = mirror_cross f g in let s = mirror_cross g d in let t = mirror_dot d g in
     mirrored (mirror f) (mirror g) (mirror e) (nearer_second (mirror f) (mirror d) (mirror g) (mirror e) (omega (arith, ints)) (omega (arith, ints)) (omega (arith, ints)) (omega (arith, ints)) (omega (arith, ints)) (mirrored d f e b))
 
 -- ---- the new arrow itself
-pub at_second : (d g : Arrow) → pos 0 <ℤ cross d g → IsBetween d g g
+pub at_second : (d g : Arrow) → pos 0 <ℤ cross d g → IsArrowBetween d g g
 at_second d g h = let z = self g in record { after = omega (arith, ints); before = omega (arith, ints); far_after = λ w. absurd (omega (arith, ints, h, w)); far_before = λ _. omega (arith, ints) }
 
-pub at_first : (g f : Arrow) → pos 0 <ℤ cross g f → IsBetween g f g
+pub at_first : (g f : Arrow) → pos 0 <ℤ cross g f → IsArrowBetween g f g
 at_first g f h = let z = self g in record { after = omega (arith, ints); before = omega (arith, ints); far_after = λ _. omega (arith, ints); far_before = λ w. absurd (omega (arith, ints, h, w)) }
 
 pub at_ray : (g : Arrow) → IsOnRay g g

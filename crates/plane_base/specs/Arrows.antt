@@ -18,12 +18,12 @@ pub record IsOnRay (d e : Arrow) : Type 0 where
   pub far : dot d d ≤ℤ dot d e
 
 -- e lies from d counterclockwise to f, and where it has the direction of one of the two it isn't shorter
-pub record IsBetween (d f e : Arrow) : Type 0 where
+pub record IsArrowBetween (d f e : Arrow) : Type 0 where
   pub after : pos 0 ≤ℤ cross d e
   pub before : pos 0 ≤ℤ cross e f
   pub far_after : cross d e ≡ pos 0 → dot d d ≤ℤ dot d e
   pub far_before : cross e f ≡ pos 0 → dot f f ≤ℤ dot f e
 
 -- from q to p, where both are given from one origin
-abbrev pub minus : Arrow → Arrow → Arrow
-minus p q = record { x = p.x -ℤ q.x; y = p.y -ℤ q.y }
+abbrev pub arrow_difference : Arrow → Arrow → Arrow
+arrow_difference p q = record { x = p.x -ℤ q.x; y = p.y -ℤ q.y }

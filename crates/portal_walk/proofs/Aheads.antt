@@ -9,8 +9,8 @@ use Rattle.sight_names.specs.Splitting.{EndPoints}
 use Rattle.stab_hull.specs.declared.Passed.{Passed}
 use Rattle.stab_hull.specs.Sleeves.{HasLastLeft, HasLastRight}
 use Rattle.portal_walk.specs.declared.path.Frame.{Frame}
-use Rattle.portal_walk.specs.Frames.{PathParts, Passes}
-use Rattle.portal_walk.specs.Walk.{ends_of}
+use Rattle.portal_walk.specs.Frames.{PathParts, PassesPortal}
+use Rattle.portal_walk.specs.Walk.{half_edge_ends}
 use Rattle.mesh_shape.specs.declared.half_edges.table.HalfEdge.{HalfEdge}
 use Rattle.mesh_shape.specs.HalfEdges.HalfEdges.{way_outside}
 use Rattle.sight_names.specs.Sequence.{names_it}
@@ -143,16 +143,16 @@ module _ (es : List EndPoints) (left : Pt) (a : Ahead) (n : ℕ) (y : HalfEdge) 
   pub left_proper : y.left_at ≢ y.right_at → left ≢ a.apex_at
   left_proper proper same = proper (sym (one_left es left y.left_at last keeps) ∙ same ∙ ap (λ (b : Ahead). b.apex_at) is)
 
-  pub left_passes : (old new : PathParts) (f : Frame) (r : Result Passed Memory) → Passes old new f (record { left = left; right = a.apex_at }) r → Passes old new f (ends_of y) r
+  pub left_passes : (old new : PathParts) (f : Frame) (r : Result Passed Memory) → PassesPortal old new f (record { left = left; right = a.apex_at }) r → PassesPortal old new f (half_edge_ends y) r
   left_passes old new f r h =
-      subst (λ (p : Pt). Passes old new f (record { left = p; right = y.right_at }) r) (one_left es left y.left_at last keeps)
-      (subst (λ (b : Ahead). Passes old new f (record { left = left; right = b.apex_at }) r) is h)
+      subst (λ (p : Pt). PassesPortal old new f (record { left = p; right = y.right_at }) r) (one_left es left y.left_at last keeps)
+      (subst (λ (b : Ahead). PassesPortal old new f (record { left = left; right = b.apex_at }) r) is h)
 
 module _ (es : List EndPoints) (right : Pt) (a : Ahead) (n : ℕ) (y : HalfEdge) (is : a ≡ ahead_of out.Right n y) (last : HasLastRight es right) (keeps : HasLastRight es y.right_at) where
   pub right_proper : y.left_at ≢ y.right_at → a.apex_at ≢ right
   right_proper proper same = proper (sym (ap (λ (b : Ahead). b.apex_at) is) ∙ same ∙ one_right es right y.right_at last keeps)
 
-  pub right_passes : (old new : PathParts) (f : Frame) (r : Result Passed Memory) → Passes old new f (record { left = a.apex_at; right = right }) r → Passes old new f (ends_of y) r
+  pub right_passes : (old new : PathParts) (f : Frame) (r : Result Passed Memory) → PassesPortal old new f (record { left = a.apex_at; right = right }) r → PassesPortal old new f (half_edge_ends y) r
   right_passes old new f r h =
-      subst (λ (p : Pt). Passes old new f (record { left = y.left_at; right = p }) r) (one_right es right y.right_at last keeps)
-      (subst (λ (b : Ahead). Passes old new f (record { left = b.apex_at; right = right }) r) is h)
+      subst (λ (p : Pt). PassesPortal old new f (record { left = y.left_at; right = p }) r) (one_right es right y.right_at last keeps)
+      (subst (λ (b : Ahead). PassesPortal old new f (record { left = b.apex_at; right = right }) r) is h)

@@ -23,8 +23,8 @@ use Rattle.portal_walk.specs.declared.step.Step.TheVariants.{Open, Blocked, End}
 use Rattle.portal_walk.specs.declared.step.Went.{Went}
 use Rattle.portal_walk.specs.declared.step.Went.TheVariants as went
 use Rattle.portal_walk.specs.Sides.{ArrivesAt}
-use Rattle.portal_walk.specs.Walk.{WalkParts, SameWalk, Answers, Rests, Blocks, Ends, Goes, Leads, Takes, pending, remaining}
-use Rattle.portal_walk.specs.Whole.{IsGround, IsOfKnown, IsGap, EndsAtGap, AnswersPending, AnswersSoFar, IsAnySector, IsWholeSoFar, all_roots}
+use Rattle.portal_walk.specs.Walk.{WalkParts, SameWalk, AnswersSequence, Rests, BlocksPending, Ends, Goes, LeadsPending, TakesStep, pending, sequences_left}
+use Rattle.portal_walk.specs.Whole.{IsWalkGround, IsOfKnown, IsWayIn, EndsAtGap, AnswersPending, AnswersSoFar, IsAnySector, IsWholeSoFar, all_roots}
 use Rattle.portal_walk.proofs.Sequences.{all_last}
 use Rattle.portal_walk.proofs.Steps.{leads_by, leads_to}
 use Rattle.portal_walk.proofs.Upcoming.{none_pending}
@@ -32,7 +32,7 @@ use Rattle.portal_walk.proofs.Covering.{known_more, same_portals, past_skipped, 
 
 -- over the walk's own map
 abbrev pub IsOver : WalkParts → Type 0
-IsOver w = IsGround w.plan w.mesh.triangles w.labels
+IsOver w = IsWalkGround w.plan w.mesh.triangles w.labels
 
 abbrev pub HasAnswered : (ℕ → Type 0) → List Sequence → WalkParts → List ℕ → Type 0
 HasAnswered Known first w opened = AnswersSoFar w.plan w.mesh.triangles w.labels w.source Known first (pending w) w.nodes opened
@@ -71,17 +71,17 @@ module _ (Known : ℕ → Type 0) (first : List Sequence) (old new : WalkParts) 
       (subst (λ (ss : List Sequence). Over ss old.nodes) (sym (append-nil (pending old))) h))))
 
   -- once the sequences before it were passed over
-  at_step : (s : Sequence) (node : Node) (more : List Sequence) (step : Answers old new s node more) → Over (s ∷ step.rest) old.nodes
+  at_step : (s : Sequence) (node : Node) (more : List Sequence) (step : AnswersSequence old new s node more) → Over (s ∷ step.rest) old.nodes
   at_step s node more step = past_skipped old.plan old.mesh.triangles old.labels old.source Known first step.skipped (s ∷ step.rest) old.nodes opened step.none
       (subst (λ (ss : List Sequence). Over ss old.nodes) step.first h)
 
-  pub answers_blocked : (e : Evidence) → Blocks old new e → HasAnswered Known first new opened
+  pub answers_blocked : (e : Evidence) → BlocksPending old new e → HasAnswered Known first new opened
   answers_blocked e b = so_far_moved old new same Known first (pending new) new.nodes opened
       (subst (λ (ss : List Sequence). Over ss new.nodes) (sym b.answers.next)
       (subst (λ (ns : List Node). Over b.answers.rest ns) (sym b.answers.nodes)
       (past_blocked old.plan old.mesh.triangles old.labels old.source Known first b.sequence b.answers.rest old.nodes opened (at_step b.sequence (BlockedNode e) [] b.answers) b.blocked.portals b.blocked.sequence e b.blocked.evidence)))
 
-  module _ (k : ℕ) (entered : Option Side) (o : Leads old new k entered) (Later : ℕ → Type 0) (keeps : (n : ℕ) → Known n → Later n) where
+  module _ (k : ℕ) (entered : Option Side) (o : LeadsPending old new k entered) (Later : ℕ → Type 0) (keeps : (n : ℕ) → Known n → Later n) where
     abbrev all_of : List Portal
     all_of = o.opened.before ++ o.opened.last ∷ []
 
@@ -102,7 +102,7 @@ module _ (Known : ℕ → Type 0) (first : List Sequence) (old new : WalkParts) 
     known_by (Some side) at arrives noted = (arrives.sector, arrives.label, noted arrives.sector arrives.label refl)
     known_by None at arrives noted = by coming_it.end
       where
-        by : IsSolidLine (map_of old.plan) coming_it.last ⊎ IsGap old.plan old.mesh.triangles old.labels old.source Known coming_it.last → IsOfKnown old.labels Later k
+        by : IsSolidLine (map_of old.plan) coming_it.last ⊎ IsWayIn old.plan old.mesh.triangles old.labels old.source Known coming_it.last → IsOfKnown old.labels Later k
         by (inl solid) = absurd (all_last (λ (d : Portal). ¬ IsSolidLine (map_of old.plan) d) o.opened.before o.opened.last o.opened.sequence.no_wall (subst (IsSolidLine (map_of old.plan)) (sym same_last) solid))
         by (inr gap) =
             let behind : gap.k ≡ k = same_Some gap.k k (sym gap.behind ∙ ap (λ (d : Portal). triangle_at old.mesh.triangles (entry_edge d)) (sym same_last) ∙ o.opened.triangle) in
@@ -153,12 +153,12 @@ after old new opened same over h = record {
   so_far = subst (λ (ss : List Sequence). HasAnswered IsAnySector ss new opened) (roots_moved old new same) h;
 }
 
-whole_open : (old new : WalkParts) (k : ℕ) (entered : Option Side) → SameWalk old new → Leads old new k entered → IsWholeSoFar old → IsWholeSoFar new
+whole_open : (old new : WalkParts) (k : ℕ) (entered : Option Side) → SameWalk old new → LeadsPending old new k entered → IsWholeSoFar old → IsWholeSoFar new
 whole_open old new k entered same leads h =
     after old new (h.opened ++ k ∷ []) same h.ground (answers_open IsAnySector (all_roots old) old new h.opened h.so_far same k entered leads IsAnySector (λ n x. x) h.ground (λ sector l s. tt))
 
 -- and stays so whatever the next step answers
-pub whole_after : (old new : WalkParts) (r : Result Step Memory) → SameWalk old new → IfOk r (Takes old new) → OnErr r (Rests old new) → IsWholeSoFar old → IsWholeSoFar new
+pub whole_after : (old new : WalkParts) (r : Result Step Memory) → SameWalk old new → IfOk r (TakesStep old new) → OnErr r (Rests old new) → IsWholeSoFar old → IsWholeSoFar new
 whole_after old new (Err m) same takes rests h = after old new h.opened same h.ground (answers_resting IsAnySector (all_roots old) old new h.opened h.so_far same rests)
 whole_after old new (Ok End) same takes rests h = after old new h.opened same h.ground (answers_ended IsAnySector (all_roots old) old new h.opened h.so_far same takes)
 whole_after old new (Ok (Blocked e)) same takes rests h = after old new h.opened same h.ground (answers_blocked IsAnySector (all_roots old) old new h.opened h.so_far same e takes)
@@ -170,5 +170,5 @@ whole_gone old new (Ok went.End) same goes rests h = after old new h.opened same
 whole_gone old new (Ok went.Blocked) same goes rests h = after old new h.opened same h.ground (answers_blocked IsAnySector (all_roots old) old new h.opened h.so_far same goes.0 goes.1)
 whole_gone old new (Ok (went.Open is_line)) same goes rests h = whole_open old new goes.0.opened.edge.triangle goes.0.opened.edge.entered same (leads_to old new goes.0 goes.0.opened.edge goes.0.opened.top) h
 
-pub whole_tree : (w : WalkParts) (t : Tree) → IsWholeSoFar w → remaining w ≡ 0 → t.source ≡ w.source → t.nodes ≡ w.nodes → (opened : List ℕ) × IsWholeTree (map_of w.plan) w.mesh.triangles w.labels t opened
+pub whole_tree : (w : WalkParts) (t : Tree) → IsWholeSoFar w → sequences_left w ≡ 0 → t.source ≡ w.source → t.nodes ≡ w.nodes → (opened : List ℕ) × IsWholeTree (map_of w.plan) w.mesh.triangles w.labels t opened
 whole_tree w t h none source nodes = (h.opened, whole_at_end w IsAnySector h.opened h.so_far (none_pending w none) t source nodes)

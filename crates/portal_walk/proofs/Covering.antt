@@ -16,10 +16,10 @@ use Rattle.block_evidence.specs.declared.Evidence.{Evidence}
 use Rattle.block_evidence.specs.declared.sight_tree.Node.{Node}
 use Rattle.block_evidence.specs.declared.sight_tree.Node.TheVariants.{Open, Blocked}
 use Rattle.block_evidence.specs.Stuck.{BlocksSequence}
-use Rattle.block_evidence.specs.SightTree.WholeTree.{Answers, HasNoNode, HasNode, no_node, blocked, open_node, AnswersRoots}
+use Rattle.block_evidence.specs.SightTree.WholeTree.{NodesAnswer, HasNoNode, HasNode, no_node, blocked, open_node, AnswersRoots}
 use Rattle.sight_lift.specs.SequenceLaws.Ways.{root_alone, one_way_on, both_ways_on}
 use Rattle.portal_walk.proofs.Sequences.{portals_more, all_last}
-use Rattle.portal_walk.specs.Whole.{IsGround, IsOfKnown, AnswersPending, IsGap, EndsAtGap, AnswersSoFar}
+use Rattle.portal_walk.specs.Whole.{IsWalkGround, IsOfKnown, AnswersPending, IsWayIn, EndsAtGap, AnswersSoFar}
 use Rattle.portal_walk.proofs.Gaps.{ways_end, root_gap}
 use Rattle.math_base.proofs.Lists.{all_so, all_front, all_join, last_pushed, contains_here as contains_head}
 use Rattle.mesh_base.proofs.GoodMesh.{found_at}
@@ -36,7 +36,7 @@ pub known_more : (ls : List (Option ℕ)) (Known Later : ℕ → Type 0) → ((b
 known_more ls Known Later keeps k (b, labelled, known) = (b, labelled, keeps b known)
 
 module _ (p : PlanParts) (ts : List Triangle) (ls : List (Option ℕ)) (a : ℕ) where
-  pub end_more : (Known Later : ℕ → Type 0) → ((b : ℕ) → Known b → Later b) → (d : Portal) → IsSolidLine (map_of p) d ⊎ IsGap p ts ls a Known d → IsSolidLine (map_of p) d ⊎ IsGap p ts ls a Later d
+  pub end_more : (Known Later : ℕ → Type 0) → ((b : ℕ) → Known b → Later b) → (d : Portal) → IsSolidLine (map_of p) d ⊎ IsWayIn p ts ls a Known d → IsSolidLine (map_of p) d ⊎ IsWayIn p ts ls a Later d
   end_more Known Later keeps d (inl s) = inl s
   end_more Known Later keeps d (inr g) = inr (record { k = g.k; behind = g.behind; free = g.free; known = λ none. known_more ls Known Later keeps g.k (g.known none) })
 
@@ -63,7 +63,7 @@ module _ (p : PlanParts) (ts : List Triangle) (ls : List (Option ℕ)) (a : ℕ)
     has_none : ((ds : List Portal) → ¬ IsSequence (map_of p) ts ls a s ds) → HasNoNode (map_of p) ts ls a c.last
     has_none none = at c.end
       where
-        at : IsSolidLine (map_of p) c.last ⊎ IsGap p ts ls a Known c.last → HasNoNode (map_of p) ts ls a c.last
+        at : IsSolidLine (map_of p) c.last ⊎ IsWayIn p ts ls a Known c.last → HasNoNode (map_of p) ts ls a c.last
         at (inl solid) = inl solid
         at (inr g) = elim (outside_or g.k) as (λ _. HasNoNode (map_of p) ts ls a c.last) [
           | inl is ↦ inr (g.k, g.behind, is)
@@ -126,19 +126,19 @@ module _ (p : PlanParts) (ts : List Triangle) (ls : List (Option ℕ)) (a : ℕ)
           ap (λ (ms : List Node). Open ∷ ms) (e1 ∙ ap (λ (ms : List Node). left ++ ms) e2 ∙ sym (append_assoc left right back)),
           ap (λ (ks : List ℕ). k ∷ ks) (f1 ∙ ap (λ (ks : List ℕ). via_left ++ ks) f2 ∙ sym (append_assoc via_left via_right via_back)),
           open_node c.last k third_there.0 left right via_left via_right (subst (λ (j : ℕ). HasNode (map_of p) ts ls a all_of c.last j) same_triangle has_node) third_there.1
-              (subst (λ (ds : List Portal). Answers (map_of p) ts ls a ds left via_left) (same_Some lps (all_of ++ way_out c.last Left third_there.0 ∷ []) (sym lway ∙ onward Left)) lanswers)
-              (subst (λ (ds : List Portal). Answers (map_of p) ts ls a ds right via_right) (same_Some rps (all_of ++ way_out c.last Right third_there.0 ∷ []) (sym rway ∙ onward Right)) ranswers)
+              (subst (λ (ds : List Portal). NodesAnswer (map_of p) ts ls a ds left via_left) (same_Some lps (all_of ++ way_out c.last Left third_there.0 ∷ []) (sym lway ∙ onward Left)) lanswers)
+              (subst (λ (ds : List Portal). NodesAnswer (map_of p) ts ls a ds right via_right) (same_Some rps (all_of ++ way_out c.last Right third_there.0 ∷ []) (sym rway ∙ onward Right)) ranswers)
               refl refl,
           h,
         )
 
-        pub ways_at_gaps : IsGround p ts ls → IsOfKnown ls Known k → AllByRecursion (EndsAtGap p ts ls a Known) (both_ways_on s)
+        pub ways_at_gaps : IsWalkGround p ts ls → IsOfKnown ls Known k → AllByRecursion (EndsAtGap p ts ls a Known) (both_ways_on s)
         ways_at_gaps g known = (comes Left ends.0, (comes Right ends.1, tt))
           where
-            ends : (IsSolidLine (map_of p) (way_out c.last Left third_there.0) ⊎ IsGap p ts ls a Known (way_out c.last Left third_there.0)) × (IsSolidLine (map_of p) (way_out c.last Right third_there.0) ⊎ IsGap p ts ls a Known (way_out c.last Right third_there.0))
+            ends : (IsSolidLine (map_of p) (way_out c.last Left third_there.0) ⊎ IsWayIn p ts ls a Known (way_out c.last Left third_there.0)) × (IsSolidLine (map_of p) (way_out c.last Right third_there.0) ⊎ IsWayIn p ts ls a Known (way_out c.last Right third_there.0))
             ends = ways_end p ts ls g a Known c.last k third_there.0 at known third_there.1
 
-            comes : (w : Way) → IsSolidLine (map_of p) (way_out c.last w third_there.0) ⊎ IsGap p ts ls a Known (way_out c.last w third_there.0) → EndsAtGap p ts ls a Known (one_way_on s w)
+            comes : (w : Way) → IsSolidLine (map_of p) (way_out c.last w third_there.0) ⊎ IsWayIn p ts ls a Known (way_out c.last w third_there.0) → EndsAtGap p ts ls a Known (one_way_on s w)
             comes w e = record { before = all_of; last = way_out c.last w third_there.0; root = c.root; way = onward w; no_wall = walls_free; outside = all_outside; end = e }
 
   -- ---- the sequences that were passed over
@@ -160,14 +160,14 @@ module _ (p : PlanParts) (ts : List Triangle) (ls : List (Option ℕ)) (a : ℕ)
       at true e all = (e, all)
       at false e all = all
 
-  roots_in : IsGround p ts ls → (Known : ℕ → Type 0) (ss : List Side) → ((s : Side) → Contains ss s → Contains (roots (map_of p) a) s) → AllByRecursion (λ s. IsTrue (is_root (map_of p) a s)) ss → AllByRecursion (EndsAtGap p ts ls a Known) (map root_alone ss)
+  roots_in : IsWalkGround p ts ls → (Known : ℕ → Type 0) (ss : List Side) → ((s : Side) → Contains ss s → Contains (roots (map_of p) a) s) → AllByRecursion (λ s. IsTrue (is_root (map_of p) a s)) ss → AllByRecursion (EndsAtGap p ts ls a Known) (map root_alone ss)
   roots_in g Known [] within all = tt
   roots_in g Known (s ∷ ss) within all = (first (root_gap p ts ls g a Known s all.0), roots_in g Known ss (λ t c. within t (contains_tail s t ss c)) all.1)
     where
-      first : (d : Portal) × (root_portal (map_of p) s ≡ Some d) × IsGap p ts ls a Known d → EndsAtGap p ts ls a Known (root_alone s)
+      first : (d : Portal) × (root_portal (map_of p) s ≡ Some d) × IsWayIn p ts ls a Known d → EndsAtGap p ts ls a Known (root_alone s)
       first (d, is, gap) = record { before = []; last = d; root = within s (contains_head s ss); way = ap (λ (o : Option Portal). portals_from ts o []) is; no_wall = tt; outside = tt; end = inr gap }
 
-  pub roots_at_gaps : IsGround p ts ls → (Known : ℕ → Type 0) → AllByRecursion (EndsAtGap p ts ls a Known) (map root_alone (roots (map_of p) a))
+  pub roots_at_gaps : IsWalkGround p ts ls → (Known : ℕ → Type 0) → AllByRecursion (EndsAtGap p ts ls a Known) (map root_alone (roots (map_of p) a))
   roots_at_gaps g Known = roots_in g Known (roots (map_of p) a) (λ s c. c) (all_kept (is_root (map_of p) a) (sides_of (map_of p)))
 
   -- what answers for the roots alone answers for the roots
@@ -179,7 +179,7 @@ module _ (p : PlanParts) (ts : List Triangle) (ls : List (Option ℕ)) (a : ℕ)
       at None is others = absurd (none-some ps (sym (ap (λ (o : Option Portal). portals_from ts o []) is) ∙ way))
       at (Some d) is others =
           let same : ps ≡ d ∷ [] = same_Some ps (d ∷ []) (sym way ∙ ap (λ (o : Option Portal). portals_from ts o []) is) in
-          (d, front, back, via_front, via_back, is, e, f, subst (λ (ds : List Portal). Answers (map_of p) ts ls a ds front via_front) same answers, others)
+          (d, front, back, via_front, via_back, is, e, f, subst (λ (ds : List Portal). NodesAnswer (map_of p) ts ls a ds front via_front) same answers, others)
 
   -- ---- nodes that answer so far
 
@@ -203,7 +203,7 @@ module _ (p : PlanParts) (ts : List Triangle) (ls : List (Option ℕ)) (a : ℕ)
         at_gaps = h.at_gaps.1;
       }
 
-      pub past_open : (c : EndsAtGap p ts ls a Known s) (k : ℕ) → triangle_at ts (entry_edge c.last) ≡ Some k → IsGround p ts ls → (Later : ℕ → Type 0) → ((b : ℕ) → Known b → Later b) → IsOfKnown ls Later k
+      pub past_open : (c : EndsAtGap p ts ls a Known s) (k : ℕ) → triangle_at ts (entry_edge c.last) ≡ Some k → IsWalkGround p ts ls → (Later : ℕ → Type 0) → ((b : ℕ) → Known b → Later b) → IsOfKnown ls Later k
           → AnswersSoFar p ts ls a Later first (both_ways_on s ++ rest) (ns ++ Open ∷ []) (opened ++ k ∷ [])
       past_open c k at g Later keeps known = record {
         goes_on = λ more onward d.

@@ -11,11 +11,11 @@ use Rattle.sight_names.specs.Sequence.{Portal, IsSolidLine, entry_edge, names_it
 use Rattle.sight_names.proofs.PlanMap.{points_differ}
 use Rattle.sight_names.proofs.PlanNumbers.{count_of_plan, place_of_plan}
 use Rattle.mesh_shape.specs.declared.half_edges.table.HalfEdge.{HalfEdge}
-use Rattle.mesh_shape.specs.HalfEdges.HalfEdges.{IsHalfEdge, entering, portal_of, way_outside}
-use Rattle.mesh_shape.specs.HalfEdges.Numbers.{corner_of, number_of}
+use Rattle.mesh_shape.specs.HalfEdges.HalfEdges.{IsHalfEdge, entering, portal_into, way_outside}
+use Rattle.mesh_shape.specs.HalfEdges.Numbers.{corner_of, half_edge_number}
 use Rattle.portal_walk.specs.declared.scene.Way.{Way as WayOut}
 use Rattle.portal_walk.specs.declared.scene.Way.TheVariants.{Left, Right}
-use Rattle.portal_walk.specs.Scene.{SceneParts, IsScene, IsNumber, IsEntry, IsClosed, Finds, FindsWay, behind, exit_of}
+use Rattle.portal_walk.specs.Scene.{SceneParts, IsScene, IsNumber, IsEntry, IsWayClosed, Finds, FindsWay, behind, exit_of}
 use Rattle.portal_walk.proofs.EdgeEnds.{edge_ends}
 use Rattle.portal_walk.proofs.SideLines.{arrives}
 use Rattle.math_base.proofs.Lists.{get_there}
@@ -24,7 +24,7 @@ use Rattle.sight_names.proofs.Portals.{triangle_within}
 
 -- ---- numbers
 
-no_triangle : (ts : List Triangle) (e : Edge) → ((k : ℕ) → triangle_at ts e ≡ Some k → k < length ts) → number_of ts e ≡ None → triangle_at ts e ≡ None
+no_triangle : (ts : List Triangle) (e : Edge) → ((k : ℕ) → triangle_at ts e ≡ Some k → k < length ts) → half_edge_number ts e ≡ None → triangle_at ts e ≡ None
 no_triangle ts e within h = go (triangle_at ts e) refl
   where
     go : (o : Option ℕ) → triangle_at ts e ≡ o → triangle_at ts e ≡ None
@@ -38,10 +38,10 @@ no_triangle ts e within h = go (triangle_at ts e) refl
             absent xs k l f = let s = get_there xs k l in none-some s.0 (sym f ∙ s.1)
         there (Some t) f = none-some (k * 3 + corner_of e t) (sym h ∙ ap (option_and_then (λ (j : ℕ). option_map (λ (u : Triangle). j * 3 + corner_of e u) (slice_get ts j))) at ∙ ap (option_map (λ (u : Triangle). k * 3 + corner_of e u)) f)
 
-entering_none : (ts : List Triangle) (xs : List HalfEdge) (e : Edge) → number_of ts e ≡ None → entering ts xs e ≡ None
+entering_none : (ts : List Triangle) (xs : List HalfEdge) (e : Edge) → half_edge_number ts e ≡ None → entering ts xs e ≡ None
 entering_none ts xs e h = ap (option_and_then (λ (i : ℕ). option_and_then (λ (x : HalfEdge). if x.solid then None else Some i) (slice_get xs i))) h
 
-entering_some : (ts : List Triangle) (xs : List HalfEdge) (e : Edge) (i : ℕ) (x : HalfEdge) → number_of ts e ≡ Some i → slice_get xs i ≡ Some x → entering ts xs e ≡ (if x.solid then None else Some i)
+entering_some : (ts : List Triangle) (xs : List HalfEdge) (e : Edge) (i : ℕ) (x : HalfEdge) → half_edge_number ts e ≡ Some i → slice_get xs i ≡ Some x → entering ts xs e ≡ (if x.solid then None else Some i)
 entering_some ts xs e i x h at = ap (option_and_then (λ (i : ℕ). option_and_then (λ (x : HalfEdge). if x.solid then None else Some i) (slice_get xs i))) h ∙ ap (option_and_then (λ (x : HalfEdge). if x.solid then None else Some i)) at
 
 pub outside_some : (xs : List HalfEdge) (source i : ℕ) (x : HalfEdge) → slice_get xs i ≡ Some x → way_outside xs source (Some i) ≡ (if names_it x.sector source then None else Some i)
@@ -66,7 +66,7 @@ proper_ends p is ts ls good xs e x h same =
 
 entry_of : (s : SceneParts) → IsScene s → (e : Edge) (x : HalfEdge) → IsHalfEdge s.plan s.mesh.triangles s.labels s.edges e x → x.solid ≡ false → names_it x.sector s.source ≡ false → IsEntry s.plan s.mesh.triangles s.labels s.source x
 entry_of s i e x h free apart =
-    let at : triangle_at s.mesh.triangles (entry_edge (portal_of x)) ≡ Some x.triangle = ap (λ (d : Portal). triangle_at s.mesh.triangles (entry_edge d)) h.portal ∙ h.triangle in
+    let at : triangle_at s.mesh.triangles (entry_edge (portal_into x)) ≡ Some x.triangle = ap (λ (d : Portal). triangle_at s.mesh.triangles (entry_edge d)) h.portal ∙ h.triangle in
     let entered = h.entered free in
     record {
       triangle = at;
@@ -77,13 +77,13 @@ entry_of s i e x h free apart =
       right_at = h.right_at;
       proper = proper_ends s.plan i.rules s.mesh.triangles s.labels i.good s.edges e x h;
       entered = entered;
-      arrives = arrives s.plan i.rules s.mesh.triangles s.labels i.good (portal_of x) x.triangle x.entered entered at;
+      arrives = arrives s.plan i.rules s.mesh.triangles s.labels i.good (portal_into x) x.triangle x.entered entered at;
     }
 
 -- ---- what is behind a portal
 
 pub found_behind : (s : SceneParts) → IsScene s → (d : Portal) (found : Option ℕ) → found ≡ way_outside s.edges s.source (entering s.mesh.triangles s.edges (entry_edge d)) → Finds s d found
-found_behind s i d found is = go (number_of ts e) refl
+found_behind s i d found is = go (half_edge_number ts e) refl
   where
     ts : List Triangle
     ts = s.mesh.triangles
@@ -94,10 +94,10 @@ found_behind s i d found is = go (number_of ts e) refl
     on : Option ℕ → Option ℕ
     on way = way_outside s.edges s.source way
 
-    closed : IsClosed s d → found ≡ None → Finds s d found
+    closed : IsWayClosed s d → found ≡ None → Finds s d found
     closed h none = subst (Finds s d) (sym none) h
 
-    go : (o : Option ℕ) → number_of ts e ≡ o → Finds s d found
+    go : (o : Option ℕ) → half_edge_number ts e ≡ o → Finds s d found
     go None h = closed (inl (no_triangle ts e (λ k at. triangle_within ts e k at) h)) (is ∙ ap on (entering_none ts s.edges e h))
     go (Some n) h =
         let there = i.edges.each e n h in

@@ -21,11 +21,11 @@ use Rattle.portal_walk.specs.declared.roots.Root.{Root}
 use Rattle.portal_walk.specs.declared.scene.Way.{Way as WayOut}
 use Rattle.portal_walk.specs.declared.step.Came.{Came}
 use Rattle.portal_walk.specs.declared.step.Came.TheVariants as came
-use Rattle.portal_walk.specs.Frames.{AreDone, HasWay, HasWays, IsReady, PathParts, Passes, first_portals, with_portal, with_ways, ways_left}
-use Rattle.portal_walk.specs.Pending.{way_of, way_taken}
+use Rattle.portal_walk.specs.Frames.{HaveNoWays, HasWay, HasWays, IsReady, PathParts, PassesPortal, first_portals, with_portal, with_ways, ways_left}
+use Rattle.portal_walk.specs.Pending.{way_in_sequence, way_taken}
 use Rattle.portal_walk.specs.Scene.{SceneParts, Finds, FindsWay, IsEntry, IsNumber}
 use Rattle.portal_walk.specs.Sides.{IsRootOf}
-use Rattle.portal_walk.specs.Walk.{WalkParts, IsWalk, ComesBy, IsBack, IsNoted, IsTop, Tries, ends_of, tried_by}
+use Rattle.portal_walk.specs.Walk.{WalkParts, IsWalk, ComesBy, IsPathBack, IsTryNoted, IsTop, Tries, half_edge_ends, tried_by}
 use Rattle.portal_walk.proofs.Ends.{same_parts}
 use Rattle.portal_walk.proofs.Entering.{KeepsEnd, blocked_at, found_number, open_at, room, root_closed, root_comes, way_closed, way_comes, way_ends, way_entry, way_number}
 use Rattle.portal_walk.proofs.Lists.{get_front, last_pushed, last_set, some_of, take_front}
@@ -39,7 +39,7 @@ use Rattle.portal_walk.proofs.Sequences.{portal_at}
 
 -- the walk at a portal of which one way is next; then it has these ways left
 module _ (p : SceneParts) (roots : List Root) (root : Option Side) (path : PathParts) (nodes : List Node) (i : IsWalk (walk_over p roots root path.frames path.ends nodes)) (top : Frame) (at : slice_get path.frames (length path.frames - 1) ≡ Some top)
-    (way : WayOut) (left : Ways) (taken : way_taken left ≡ way_of way) (less : ways_left top.ways ≡ ways_left left + 1) where
+    (way : WayOut) (left : Ways) (taken : way_taken left ≡ way_in_sequence way) (less : ways_left top.ways ≡ ways_left left + 1) where
   abbrev pub old : WalkParts
   old = walk_over p roots root path.frames path.ends nodes
 
@@ -62,7 +62,7 @@ module _ (p : SceneParts) (roots : List Root) (root : Option Side) (path : PathP
   some : 0 < length tried.frames
   some = omega (arith, there, as_long)
 
-  says : IfSome (slice_get tried.frames (length tried.frames - 1)) (λ (f : Frame). (f.edge ≡ top.edge) × (way_taken f.ways ≡ way_of way))
+  says : IfSome (slice_get tried.frames (length tried.frames - 1)) (λ (f : Frame). (f.edge ≡ top.edge) × (way_taken f.ways ≡ way_in_sequence way))
   says = rw (last_set path.frames top (with_ways top left) at) (refl, taken)
 
   abbrev pub rooted : (side : Side) × (root ≡ Some side)
@@ -88,7 +88,7 @@ module _ (p : SceneParts) (roots : List Root) (root : Option Side) (path : PathP
   front_same : take top.under path.frames ≡ take top.under tried.frames
   front_same = sym (take-set-le top.under path.frames (length path.frames - 1) (with_ways top left) under_in)
 
-  done_tried : ways_left left ≡ 0 → AreDone tried.frames top.under (length tried.frames)
+  done_tried : ways_left left ≡ 0 → HaveNoWays tried.frames top.under (length tried.frames)
   done_tried none_left = under_done tried.frames (with_ways top left) mid_is.under (last_set path.frames top (with_ways top left) at) none_left
 
   tried_ways : HasWays path (length path.frames - 1) left tried
@@ -142,7 +142,7 @@ module _ (p : SceneParts) (roots : List Root) (root : Option Side) (path : PathP
       pub keeps : KeepsEnd way path.ends y
       keeps = way_ends p roots root tried.frames tried.ends nodes mid_is top.edge way found says some finds side number y e there_is rooted.1
 
-      comes : ComesBy p.plan p.mesh.triangles p.labels p.source (tried_by mid side) y (path.ends ++ ends_of y ∷ [])
+      comes : ComesBy p.plan p.mesh.triangles p.labels p.source (tried_by mid side) y (path.ends ++ half_edge_ends y ∷ [])
       comes = way_comes p roots root tried.frames tried.ends nodes mid_is top.edge way found says some finds side number y e there_is rooted.1
 
       -- where there was no memory for it
@@ -150,7 +150,7 @@ module _ (p : SceneParts) (roots : List Root) (root : Option Side) (path : PathP
       way_rests q same r = (rests_of old (walk_over p roots root q.frames q.ends nodes) (record { plan = refl; mesh = refl; labels = refl; source = refl }) (record { roots = refl; root = refl; frames = ap (λ (s : PathParts). s.frames) same; nodes = refl }), way_ahead old top (with_ways top left) at less)
 
       -- no line passes the portal, as these ends show
-      module _ (next : Frame) (evidence : Evidence) (between : PathParts) (passes : Passes path between next (ends_of y) (Ok (Stuck evidence))) (later : List Node) where
+      module _ (next : Frame) (evidence : Evidence) (between : PathParts) (passes : PassesPortal path between next (half_edge_ends y) (Ok (Stuck evidence))) (later : List Node) where
         pub stuck_rests : later ≡ nodes → (r : Memory) → Tries old (walk_over p roots root between.frames between.ends later) (Err r)
         stuck_rests same r = (
           rests_of old (walk_over p roots root between.frames between.ends later) (record { plan = refl; mesh = refl; labels = refl; source = refl }) (record { roots = refl; root = refl; frames = ap (λ (q : PathParts). q.frames) passes.0; nodes = same }),
@@ -179,8 +179,8 @@ module _ (p : SceneParts) (roots : List Root) (root : Option Side) (path : PathP
               (omega (arith, tried_under)) (done_tried last) (ap (λ (r : PathParts). r.frames) back_to ∙ front_same) refl refl refl
 
       -- the portal was tried, and its node noted
-      module _ (next : Frame) (edge : next.edge ≡ number) (both : next.ways ≡ Both) (stays : next.under ≤ length tried.frames) (done : AreDone tried.frames next.under (length tried.frames)) (has : HasWay tried.frames next.under)
-          (count : ℕ) (counts : count ≡ length path.frames) (between after : PathParts) (later : List Node) (passed : Passed) (passes : Passes path between next (ends_of y) (Ok passed)) (is_line : Bool) (tells : is_line ≡ is_some y.entered) where
+      module _ (next : Frame) (edge : next.edge ≡ number) (both : next.ways ≡ Both) (stays : next.under ≤ length tried.frames) (done : HaveNoWays tried.frames next.under (length tried.frames)) (has : HasWay tried.frames next.under)
+          (count : ℕ) (counts : count ≡ length path.frames) (between after : PathParts) (later : List Node) (passed : Passed) (passes : PassesPortal path between next (half_edge_ends y) (Ok passed)) (is_line : Bool) (tells : is_line ≡ is_some y.entered) where
         abbrev pub new : WalkParts
         new = walk_over p roots root after.frames after.ends later
 
@@ -191,16 +191,16 @@ module _ (p : SceneParts) (roots : List Root) (root : Option Side) (path : PathP
         next_number = subst (IsNumber p.mesh.triangles) (sym edge) (rw e at number_found)
 
         -- the portals before it are as they were
-        back : (passed : Passed) → Passes path between next (ends_of y) (Ok passed) → IsBack count between after passed → after ≡ path
-        back PassedOpen h is = is ∙ ap (first_portals count) h.0 ∙ same_parts _ path.frames _ path.ends (take_front path.frames (next ∷ []) count counts) (take_front path.ends (ends_of y ∷ []) count (let l = i.each in omega (arith, counts, l)))
+        back : (passed : Passed) → PassesPortal path between next (half_edge_ends y) (Ok passed) → IsPathBack count between after passed → after ≡ path
+        back PassedOpen h is = is ∙ ap (first_portals count) h.0 ∙ same_parts _ path.frames _ path.ends (take_front path.frames (next ∷ []) count counts) (take_front path.ends (half_edge_ends y ∷ []) count (let l = i.each in omega (arith, counts, l)))
         back (Stuck evidence) h is = is ∙ h.0
 
-        set_open : passed ≡ PassedOpen → HasWays between (count - 1) left after → (after ≡ with_portal tried next (ends_of y)) × IsSplittable (path.ends ++ ends_of y ∷ [])
+        set_open : passed ≡ PassedOpen → HasWays between (count - 1) left after → (after ≡ with_portal tried next (half_edge_ends y)) × IsSplittable (path.ends ++ half_edge_ends y ∷ [])
         set_open is set =
             let h = rw is at passes in
             let last : slice_get between.frames (count - 1) ≡ Some top = ap (λ (q : PathParts). slice_get q.frames (count - 1)) h.0 ∙ ap (λ (n : ℕ). slice_get (path.frames ++ next ∷ []) (n - 1)) counts ∙ get_front path.frames next (length path.frames - 1) top at in (
               set top last
-                  ∙ same_parts _ (tried.frames ++ next ∷ []) _ (path.ends ++ ends_of y ∷ [])
+                  ∙ same_parts _ (tried.frames ++ next ∷ []) _ (path.ends ++ half_edge_ends y ∷ [])
                   (ap (λ (q : PathParts). slice_set q.frames (count - 1) (with_ways top left)) h.0
                   ∙ ap (λ (n : ℕ). slice_set (path.frames ++ next ∷ []) (n - 1) (with_ways top left)) counts
                   ∙ set-append_left path.frames (next ∷ []) (length path.frames - 1) (with_ways top left) there)
@@ -208,7 +208,7 @@ module _ (p : SceneParts) (roots : List Root) (root : Option Side) (path : PathP
               h.1,
             )
 
-        set_stuck : (evidence : Evidence) → passed ≡ Stuck evidence → HasWays between (count - 1) left after → (after ≡ tried) × IsBarredBy (path.ends ++ ends_of y ∷ []) evidence
+        set_stuck : (evidence : Evidence) → passed ≡ Stuck evidence → HasWays between (count - 1) left after → (after ≡ tried) × IsBarredBy (path.ends ++ half_edge_ends y ∷ []) evidence
         set_stuck evidence is set =
             let h = rw is at passes in
             let last : slice_get between.frames (count - 1) ≡ Some top = ap (λ (q : PathParts). slice_get q.frames (count - 1)) h.0 ∙ ap (λ (n : ℕ). slice_get path.frames (n - 1)) counts ∙ at in (
@@ -219,19 +219,19 @@ module _ (p : SceneParts) (roots : List Root) (root : Option Side) (path : PathP
               h.1,
             )
 
-        pub way_walk : (result : Result (Option Came) Memory) → IsNoted count left is_line between after nodes later passed result → IsWalk new
+        pub way_walk : (result : Result (Option Came) Memory) → IsTryNoted count left is_line between after nodes later passed result → IsWalk new
         way_walk (Err r) h = subst (λ (q : PathParts). IsWalk (walk_over p roots root q.frames q.ends later)) (sym (back passed passes h.1)) (subst (λ (ns : List Node). IsWalk (walk_over p roots root path.frames path.ends ns)) (sym h.0) i)
         way_walk (Ok None) h = absurd h
         way_walk (Ok (Some came.End)) h = absurd h
         way_walk (Ok (Some (came.Open told))) h =
             let set = set_open h.0 h.3 in
             walk_opened p roots root tried nodes root after later OpenNode next y mid_is set.0 h.2 tt (i.rooted (omega (arith, there))) i.exit (λ l. refl) stays done has (room mid side y mid_is comes set.1) next_number next_there
-            (λ d r. subst (λ (s : Side). ComesBy p.plan p.mesh.triangles p.labels p.source (tried_by mid s) y (path.ends ++ ends_of y ∷ [])) (same_Some side d (sym rooted.1 ∙ r)) comes)
+            (λ d r. subst (λ (s : Side). ComesBy p.plan p.mesh.triangles p.labels p.source (tried_by mid s) y (path.ends ++ half_edge_ends y ∷ [])) (same_Some side d (sym rooted.1 ∙ r)) comes)
         way_walk (Ok (Some (came.Blocked evidence))) h =
             let set = set_stuck evidence h.0 h.2 in
             walk_blocked p roots root tried nodes root after later (BlockedNode evidence) mid_is set.0 h.1 (set.1.pairs, set.1.evidence) (i.rooted (omega (arith, there))) i.exit (λ l. refl)
 
-        pub way_noted : (result : Result (Option Came) Memory) → IsNoted count left is_line between after nodes later passed result → Tries old new result
+        pub way_noted : (result : Result (Option Came) Memory) → IsTryNoted count left is_line between after nodes later passed result → Tries old new result
         way_noted (Err r) h = (
           rests_of old new (record { plan = refl; mesh = refl; labels = refl; source = refl }) (record { roots = refl; root = refl; frames = ap (λ (q : PathParts). q.frames) (back passed passes h.1); nodes = h.0 }),
           way_ahead old top (with_ways top left) at less,
@@ -257,7 +257,7 @@ module _ (p : SceneParts) (roots : List Root) (root : Option Side) (path : PathP
             )
 
         -- the last portal has a way left, where this is so of the one before a portal that no line passes
-        pub way_ready : IsReady path.frames → ((evidence : Evidence) → passed ≡ Stuck evidence → 0 < ways_left left) → (result : Result (Option Came) Memory) → IsNoted count left is_line between after nodes later passed result → IsReady after.frames
+        pub way_ready : IsReady path.frames → ((evidence : Evidence) → passed ≡ Stuck evidence → 0 < ways_left left) → (result : Result (Option Came) Memory) → IsTryNoted count left is_line between after nodes later passed result → IsReady after.frames
         way_ready ready stuck (Err r) h = subst (λ (q : PathParts). IsReady q.frames) (sym (back passed passes h.1)) ready
         way_ready ready stuck (Ok None) h = absurd h
         way_ready ready stuck (Ok (Some came.End)) h = absurd h
@@ -273,11 +273,11 @@ pub open_not_stuck : (e : Evidence) → ¬ (PassedOpen ≡ Stuck e)
 open_not_stuck e same = cc
 
 -- a node that is noted is told
-pub noted_told : (n : ℕ) (w : Ways) (b : Bool) (old new : PathParts) (ms ns : List Node) (passed : Passed) (r : Result (Option Came) Memory) → IsNoted n w b old new ms ns passed r → ¬ (r ≡ Ok None)
-noted_told n w b old new ms ns passed r h e = subst (IsNoted n w b old new ms ns passed) e h
+pub noted_told : (n : ℕ) (w : Ways) (b : Bool) (old new : PathParts) (ms ns : List Node) (passed : Passed) (r : Result (Option Came) Memory) → IsTryNoted n w b old new ms ns passed r → ¬ (r ≡ Ok None)
+noted_told n w b old new ms ns passed r h e = subst (IsTryNoted n w b old new ms ns passed) e h
 
 -- a portal behind the left way is left for the one before it
-pub left_done_under : (fs : List Frame) (n : ℕ) → n ≡ length fs → AreDone fs n (length fs)
+pub left_done_under : (fs : List Frame) (n : ℕ) → n ≡ length fs → HaveNoWays fs n (length fs)
 left_done_under fs n e j f from before at = absurd (apart n j (length fs) e from before)
   where
     apart : (n j m : ℕ) → n ≡ m → n ≤ j → j < m → ⊥
@@ -314,23 +314,23 @@ module _ (p : SceneParts) (roots : List Root) (root : Option Side) (path : PathP
   )
 
   module _ (number : ℕ) (y : HalfEdge) (e : found ≡ Some number) (there_is : slice_get p.edges number ≡ Some y) where
-    comes_first : ComesBy p.plan p.mesh.triangles p.labels p.source (tried_by start r.side) y (path.ends ++ ends_of y ∷ [])
+    comes_first : ComesBy p.plan p.mesh.triangles p.labels p.source (tried_by start r.side) y (path.ends ++ half_edge_ends y ∷ [])
     comes_first = root_comes p roots root path.frames path.ends nodes i empty r is_root found finds number y e there_is
 
     pub root_proper : y.left_at ≢ y.right_at
     root_proper = comes_first.entry.proper
 
-    module _ (q : PathParts) (first : Frame) (edge : first.edge ≡ number) (both : first.ways ≡ Both) (under : first.under ≡ 0) (begun : q ≡ record { frames = first ∷ []; ends = ends_of y ∷ [] }) (later : List Node) (noted : later ≡ nodes ++ OpenNode ∷ []) where
-      grown : q ≡ with_portal path first (ends_of y)
-      grown = begun ∙ ap (λ (s : PathParts). with_portal s first (ends_of y)) (sym path_empty)
+    module _ (q : PathParts) (first : Frame) (edge : first.edge ≡ number) (both : first.ways ≡ Both) (under : first.under ≡ 0) (begun : q ≡ record { frames = first ∷ []; ends = half_edge_ends y ∷ [] }) (later : List Node) (noted : later ≡ nodes ++ OpenNode ∷ []) where
+      grown : q ≡ with_portal path first (half_edge_ends y)
+      grown = begun ∙ ap (λ (s : PathParts). with_portal s first (half_edge_ends y)) (sym path_empty)
 
-      split : IsSplittable (path.ends ++ ends_of y ∷ [])
-      split = subst (λ (s : PathParts). IsSplittable (s.ends ++ ends_of y ∷ [])) (sym path_empty) (one_splittable (ends_of y) root_proper)
+      split : IsSplittable (path.ends ++ half_edge_ends y ∷ [])
+      split = subst (λ (s : PathParts). IsSplittable (s.ends ++ half_edge_ends y ∷ [])) (sym path_empty) (one_splittable (half_edge_ends y) root_proper)
 
       first_there : slice_get p.edges first.edge ≡ Some y
       first_there = ap (λ (n : ℕ). slice_get p.edges n) edge ∙ there_is
 
-      none_before : AreDone path.frames first.under (length path.frames)
+      none_before : HaveNoWays path.frames first.under (length path.frames)
       none_before j f from before at = absurd (nothing j f before at)
         where
           nothing : (j : ℕ) (f : Frame) → j < length path.frames → slice_get path.frames j ≡ Some f → ⊥
@@ -340,7 +340,7 @@ module _ (p : SceneParts) (roots : List Root) (root : Option Side) (path : PathP
       root_walk less fewer = walk_rooted p roots (Some r.side) q later less
           (walk_opened p roots root path nodes (Some r.side) q later OpenNode first y i grown noted tt refl is_root.exit (λ l. absurd (not_there l)) (omega (arith, under)) none_before (no_way_before path.frames first.under under) (room start r.side y i comes_first split)
           (subst (IsNumber p.mesh.triangles) (sym edge) (rw e at root_number)) first_there
-          (λ d h. subst (λ (s : Side). ComesBy p.plan p.mesh.triangles p.labels p.source (tried_by start s) y (path.ends ++ ends_of y ∷ [])) (same_Some r.side d h) comes_first))
+          (λ d h. subst (λ (s : Side). ComesBy p.plan p.mesh.triangles p.labels p.source (tried_by start s) y (path.ends ++ half_edge_ends y ∷ [])) (same_Some r.side d h) comes_first))
           (All-same (IsRootOf p.plan p.source) less popped_roots fewer (All-take (IsRootOf p.plan p.source) (length roots - 1) roots i.exits))
         where
           not_there : 0 < length path.frames → ⊥

@@ -5,7 +5,7 @@ use native.Mathlib.Numerals.{unary_clauses}
 use Rattle.portal_walk.specs.declared.path.Frame.{Frame}
 use Rattle.portal_walk.specs.declared.path.Ways.{Ways}
 use Rattle.portal_walk.specs.declared.path.Ways.TheVariants.{Both, RightOnly, Done}
-use Rattle.portal_walk.specs.Frames.{AreDone, ways_left, frames_weight, ways_of, top_ways}
+use Rattle.portal_walk.specs.Frames.{HaveNoWays, ways_left, frames_weight, ways_of, top_ways}
 use Rattle.portal_walk.proofs.Lists.{get_front, get_set_same, last_down, front_back}
 use Rattle.math_base.proofs.Lists.{get_take, get_there}
 use Rattle.math_base.proofs.Options.{none_is_not_some}
@@ -89,7 +89,7 @@ done_leaves d fs f e none = same _ _ _ _ (ap (frames_weight d) (sym (front_back 
     same a b w q h e = let k : b ≡ a + 0 * q = subst (λ (x : ℕ). b ≡ a + x * q) e h in omega arith
 
 -- what stays the same when a portal with no way left goes stays the same when all such at the end go
-pub cut_by : {X : Type 0} (v : List Frame → X) → ((fs : List Frame) (f : Frame) → slice_get fs (length fs - 1) ≡ Some f → ways_left f.ways ≡ 0 → v (take (length fs - 1) fs) ≡ v fs) → (m n : ℕ) (fs : List Frame) → length fs ≡ n + m → AreDone fs n (length fs) → v (take n fs) ≡ v fs
+pub cut_by : {X : Type 0} (v : List Frame → X) → ((fs : List Frame) (f : Frame) → slice_get fs (length fs - 1) ≡ Some f → ways_left f.ways ≡ 0 → v (take (length fs - 1) fs) ≡ v fs) → (m n : ℕ) (fs : List Frame) → length fs ≡ n + m → HaveNoWays fs n (length fs) → v (take n fs) ≡ v fs
 cut_by v step zero n fs e h = ap v (take_all n fs (omega (arith, e)))
 cut_by v step (suc m) n fs e h =
     let t = get_there fs (length fs - 1) (omega (arith, e)) in
@@ -98,7 +98,7 @@ cut_by v step (suc m) n fs e h =
     ∙ cut_by v step m n (take (length fs - 1) fs) (omega (arith, e, rest)) (λ j f from before at. let w = get_take (length fs - 1) fs j f at in let l = w.0 in h j f from (omega (arith, l)) w.1)
     ∙ step fs t.0 t.1 (h (length fs - 1) t.0 (omega (arith, e)) (omega (arith, e)) t.1)
 
-pub cut_leaves : (d : ℕ) (fs : List Frame) (n : ℕ) → n ≤ length fs → AreDone fs n (length fs) → frames_weight d (take n fs) ≡ frames_weight d fs
+pub cut_leaves : (d : ℕ) (fs : List Frame) (n : ℕ) → n ≤ length fs → HaveNoWays fs n (length fs) → frames_weight d (take n fs) ≡ frames_weight d fs
 cut_leaves d fs n within h = cut_by (frames_weight d) (done_leaves d) (length fs - n) n fs (omega arith) h
 
 pub top_of : (fs : List Frame) (f : Frame) → slice_get fs (length fs - 1) ≡ Some f → top_ways fs ≡ ways_left f.ways

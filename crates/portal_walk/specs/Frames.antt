@@ -48,8 +48,8 @@ abbrev pub first_portals : ℕ → PathParts → PathParts
 first_portals n p = record { frames = take n p.frames; ends = take n p.ends }
 
 -- no portal from the n-th to before the k-th has a way left
-abbrev pub AreDone : List Frame → ℕ → ℕ → Type 0
-AreDone fs n k = (j : ℕ) (f : Frame) → n ≤ j → j < k → slice_get fs j ≡ Some f → ways_left f.ways ≡ 0
+abbrev pub HaveNoWays : List Frame → ℕ → ℕ → Type 0
+HaveNoWays fs n k = (j : ℕ) (f : Frame) → n ≤ j → j < k → slice_get fs j ≡ Some f → ways_left f.ways ≡ 0
 
 -- of the first n portals the last one, if any, has a way left
 abbrev pub HasWay : List Frame → ℕ → Type 0
@@ -57,7 +57,7 @@ HasWay fs n = (j : ℕ) (f : Frame) → n ≡ j + 1 → slice_get fs j ≡ Some 
 
 -- of each portal: those before it that don't stay when it is left have no way left, and the last one that stays has one
 abbrev pub AreUnder : List Frame → Type 0
-AreUnder fs = (k : ℕ) (f : Frame) → slice_get fs k ≡ Some f → (f.under ≤ k) × AreDone fs f.under k × HasWay fs f.under
+AreUnder fs = (k : ℕ) (f : Frame) → slice_get fs k ≡ Some f → (f.under ≤ k) × HaveNoWays fs f.under k × HasWay fs f.under
 
 -- the last portal has a way left
 abbrev pub IsReady : List Frame → Type 0
@@ -68,14 +68,14 @@ abbrev pub with_portal : PathParts → Frame → EndPoints → PathParts
 with_portal p f e = record { frames = p.frames ++ f ∷ []; ends = p.ends ++ e ∷ [] }
 
 -- the portal is on the path, and a line splits all ends; or the path is as before, and stuck ends show that none does
-abbrev pub Passes : PathParts → PathParts → Frame → EndPoints → Result Passed Memory → Type 0
-Passes old new f e (Ok Open) = (new ≡ with_portal old f e) × IsSplittable (old.ends ++ e ∷ [])
-Passes old new f e (Ok (Stuck evidence)) = (new ≡ old) × IsBarredBy (old.ends ++ e ∷ []) evidence
-Passes old new f e (Err r) = new ≡ old
+abbrev pub PassesPortal : PathParts → PathParts → Frame → EndPoints → Result Passed Memory → Type 0
+PassesPortal old new f e (Ok Open) = (new ≡ with_portal old f e) × IsSplittable (old.ends ++ e ∷ [])
+PassesPortal old new f e (Ok (Stuck evidence)) = (new ≡ old) × IsBarredBy (old.ends ++ e ∷ []) evidence
+PassesPortal old new f e (Err r) = new ≡ old
 
 -- the same of a portal that may have to be searched for: then the path is as before
-abbrev pub Tells : PathParts → PathParts → Frame → EndPoints → Result Told Memory → Type 0
-Tells old new f e (Ok told.Open) = Passes old new f e (Ok Open)
-Tells old new f e (Ok (told.Stuck evidence)) = Passes old new f e (Ok (Stuck evidence))
-Tells old new f e (Ok told.Unseen) = new ≡ old
-Tells old new f e (Err r) = new ≡ old
+abbrev pub TellsPortal : PathParts → PathParts → Frame → EndPoints → Result Told Memory → Type 0
+TellsPortal old new f e (Ok told.Open) = PassesPortal old new f e (Ok Open)
+TellsPortal old new f e (Ok (told.Stuck evidence)) = PassesPortal old new f e (Ok (Stuck evidence))
+TellsPortal old new f e (Ok told.Unseen) = new ≡ old
+TellsPortal old new f e (Err r) = new ≡ old

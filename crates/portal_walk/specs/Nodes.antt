@@ -6,6 +6,6 @@ use Rattle.block_evidence.specs.declared.sight_tree.Node.TheVariants.{Open, Bloc
 use Rattle.block_evidence.specs.Stuck.{IsEvidenceOf}
 
 -- an open node, or one that is blocked by ends of some pairs that are stuck
-abbrev pub IsAnswered : Node → Type 0
-IsAnswered Open = Unit {0}
-IsAnswered (Blocked e) = (pairs : List EndPair) × IsEvidenceOf pairs e
+abbrev pub IsNodeAnswered : Node → Type 0
+IsNodeAnswered Open = Unit {0}
+IsNodeAnswered (Blocked e) = (pairs : List EndPair) × IsEvidenceOf pairs e

@@ -10,7 +10,7 @@ use Rattle.portal_walk.specs.declared.ahead.Ahead.{Ahead}
 use Rattle.portal_walk.specs.declared.roots.Root.{Root}
 use Rattle.portal_walk.specs.declared.scene.Way.TheVariants.{Left, Right}
 use Rattle.portal_walk.specs.Ahead.{AreAhead}
-use Rattle.portal_walk.specs.Roots.{AreRoots}
+use Rattle.portal_walk.specs.Roots.{AreSideRoots}
 
 pub record TerrainParts : Type 0 where
   pub edges : List HalfEdge
@@ -24,4 +24,4 @@ pub record IsTerrain (p : PlanParts) (ts : List Triangle) (labels : List (Option
   pub few : length t.edges ≤ MOST_TRIANGLES * 3
   pub lefts : AreAhead t.edges Left t.lefts
   pub rights : AreAhead t.edges Right t.rights
-  pub roots : AreRoots p t.roots
+  pub roots : AreSideRoots p t.roots

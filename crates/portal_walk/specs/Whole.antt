@@ -8,12 +8,12 @@ use Rattle.sight_names.specs.Plan.{PlanParts, IsPlan}
 use Rattle.sight_names.specs.Sequence.{Portal, Sequence, entry_edge, portals, roots, IsSolidLine, LeadsOutside}
 use Rattle.sight_names.specs.Sound.{LinesMeetAtEnds}
 use Rattle.block_evidence.specs.declared.sight_tree.Node.{Node}
-use Rattle.block_evidence.specs.SightTree.WholeTree.{Answers}
+use Rattle.block_evidence.specs.SightTree.WholeTree.{NodesAnswer}
 use Rattle.sight_lift.specs.SequenceLaws.Ways.{root_alone}
 use Rattle.portal_walk.specs.Walk.{WalkParts, pending}
 
 -- the triangles are a good mesh of a plan whose lines meet at ends alone
-pub record IsGround (p : PlanParts) (ts : List Triangle) (ls : List (Option ℕ)) : Type 0 where
+pub record IsWalkGround (p : PlanParts) (ts : List Triangle) (ls : List (Option ℕ)) : Type 0 where
   pub rules : IsPlan p
   pub audited : LinesMeetAtEnds (map_of p)
   pub good : IsGoodMesh (map_of p) ts ls
@@ -28,10 +28,10 @@ module _ (p : PlanParts) (ts : List Triangle) (ls : List (Option ℕ)) (a : ℕ)
   abbrev pub AnswersPending : List Sequence → List Node → List ℕ → Type 0
   AnswersPending [] ns opened = (ns ≡ []) × (opened ≡ [])
   AnswersPending (s ∷ ss) ns opened = (ps : List Portal) × (front back : List Node) × (via_front via_back : List ℕ) × (portals (map_of p) ts s ≡ Some ps) × (ns ≡ front ++ back) × (opened ≡ via_front ++ via_back)
-      × Answers (map_of p) ts ls a ps front via_front × AnswersPending ss back via_back
+      × NodesAnswer (map_of p) ts ls a ps front via_front × AnswersPending ss back via_back
 
   -- no wall, and a triangle behind it; where no line is there, the triangle is of a sector that is known
-  pub record IsGap (Known : ℕ → Type 0) (d : Portal) : Type 0 where
+  pub record IsWayIn (Known : ℕ → Type 0) (d : Portal) : Type 0 where
     pub k : ℕ
     pub behind : triangle_at ts (entry_edge d) ≡ Some k
     pub free : ¬ IsSolidLine (map_of p) d
@@ -45,7 +45,7 @@ module _ (p : PlanParts) (ts : List Triangle) (ls : List (Option ℕ)) (a : ℕ)
     pub way : portals (map_of p) ts s ≡ Some (before ++ last ∷ [])
     pub no_wall : AllByRecursion (λ d. ¬ IsSolidLine (map_of p) d) before
     pub outside : AllByRecursion (LeadsOutside ts ls a) before
-    pub end : IsSolidLine (map_of p) last ⊎ IsGap Known last
+    pub end : IsSolidLine (map_of p) last ⊎ IsWayIn Known last
 
   -- These nodes, followed by any that answer for what is still pending, answer for all that was pending at first. The open
   -- ones lead into the triangles of the last list, in order.
@@ -63,6 +63,6 @@ all_roots w = map root_alone (roots (map_of w.plan) w.source)
 
 -- the nodes of the walk, followed by any that answer for what is still pending, answer for all roots of its source
 pub record IsWholeSoFar (w : WalkParts) : Type 0 where
-  pub ground : IsGround w.plan w.mesh.triangles w.labels
+  pub ground : IsWalkGround w.plan w.mesh.triangles w.labels
   pub opened : List ℕ
   pub so_far : AnswersSoFar w.plan w.mesh.triangles w.labels w.source IsAnySector (all_roots w) (pending w) w.nodes opened

@@ -4,7 +4,7 @@ ghost use Rattle.std.specs.Prelude.{◌≡◌, ◌≢◌, ◌+◌, ◌-◌, ◌<
 ghost use Rattle.sight_names.specs.Splitting.{SplitsEnds, IsSplittable};
 ghost use Rattle.stab_hull.specs.Answer.{IsLineInRange};
 ghost use Rattle.stab_hull.specs.Sleeves.{HasLastLeft, HasLastRight};
-ghost use Rattle.portal_walk.specs.Frames.{Passes, Tells, HasWays, first_portals};
+ghost use Rattle.portal_walk.specs.Frames.{PassesPortal, TellsPortal, HasWays, first_portals};
 
 use sight_names::{Memory, Pt, RIGHT_END};
 use stab_hull::{Passed, Told, Track};
@@ -35,12 +35,12 @@ pub struct Path {
 }
 
 impl Model for Path {
-    ghost use Rattle.stab_hull.specs.Sleeves.{IsTrack, ends_of, notes_of};
+    ghost use Rattle.stab_hull.specs.Sleeves.{IsTrack, ends_of_track, notes_of};
     ghost use Rattle.portal_walk.specs.Frames.{PathParts};
 
     ghost Value = { PathParts };
 
-    ghost view = { λ p. record { frames = notes_of p.track; ends = ends_of p.track } };
+    ghost view = { λ p. record { frames = notes_of p.track; ends = ends_of_track p.track } };
 
     ghost invariant = { λ p. IsTrack p.track };
 }
@@ -122,24 +122,24 @@ impl Path {
     /// tells ends that show that none does, or that it has to be searched for.
     // in line, since a call would take what comes of it through memory
     #[inline(always)]
-    pub fn by_left(&mut self, frame: Frame, left: Pt, right: Pt) -> Result<Told, Memory>
+    pub fn by_new_right(&mut self, frame: Frame, left: Pt, right: Pt) -> Result<Told, Memory>
         requires last { HasLastLeft self.old.ends left }
         requires proper { left ≢ right }
         requires room { length self.old.frames < RIGHT_END }
-        ensures tells { Tells self.old self.new frame (record { left = left; right = right }) result }
+        ensures tells { TellsPortal self.old self.new frame (record { left = left; right = right }) result }
     {
-        self.track.by_left(frame, left, right)
+        self.track.by_new_right(frame, left, right)
     }
 
     /// The same from this left end to the last right end.
     #[inline(always)]
-    pub fn by_right(&mut self, frame: Frame, left: Pt, right: Pt) -> Result<Told, Memory>
+    pub fn by_new_left(&mut self, frame: Frame, left: Pt, right: Pt) -> Result<Told, Memory>
         requires last { HasLastRight self.old.ends right }
         requires proper { left ≢ right }
         requires room { length self.old.frames < RIGHT_END }
-        ensures tells { Tells self.old self.new frame (record { left = left; right = right }) result }
+        ensures tells { TellsPortal self.old self.new frame (record { left = left; right = right }) result }
     {
-        self.track.by_right(frame, left, right)
+        self.track.by_new_left(frame, left, right)
     }
 
     /// The same of either by a search, which the first portals need.
@@ -147,7 +147,7 @@ impl Path {
         requires there { 0 < length self.old.frames }
         requires proper { left ≢ right }
         requires room { length self.old.frames < RIGHT_END }
-        ensures passes { Passes self.old self.new frame (record { left = left; right = right }) result }
+        ensures passes { PassesPortal self.old self.new frame (record { left = left; right = right }) result }
     {
         self.track.by_search(frame, left, right)
     }

@@ -2,7 +2,7 @@
 
 ghost use Rattle.std.specs.Prelude.{◌≡◌, ◌<◌, ℕ, [], Some, slice_get, slice_index_or, length, map, reverse, IfOk};
 ghost use Rattle.sight_names.specs.Plan.{IsPlan};
-ghost use Rattle.portal_walk.specs.Roots.{with_root, roots_in, AreRoots, PutsLine};
+ghost use Rattle.portal_walk.specs.Roots.{with_root, roots_in, AreSideRoots, PutsRoots};
 
 use sight_names::{Line, Memory, Plan, Side};
 use std::alloc::Global;
@@ -55,7 +55,7 @@ fn put_line(
 ) -> Result<(), Memory>
     requires rules { IsPlan plan.now }
     requires entry { slice_get plan.now.lines number ≡ Some entry }
-    ensures { IfOk result (λ _. PutsLine plan.now number (map (λ v. v.items) of_sectors.old) (map (λ v. v.items) of_sectors.new)) }
+    ensures { IfOk result (λ _. PutsRoots plan.now number (map (λ v. v.items) of_sectors.old) (map (λ v. v.items) of_sectors.new)) }
 {
     let Some(line) = entry else {
         return Ok(());
@@ -100,7 +100,7 @@ fn no_roots(alloc: Global, count: u16) -> Result<Vec<Vec<Root>>, Memory>
 impl Roots {
     /// The roots of all sectors of a plan.
     pub fn of(alloc: Global, plan: &Plan) -> Result<Roots, Memory>
-        ensures { IfOk result (AreRoots plan.now) }
+        ensures { IfOk result (AreSideRoots plan.now) }
     {
         let lines = plan.lines();
         let mut of_sectors = no_roots(alloc, plan.sectors)?;

@@ -42,9 +42,9 @@ impl<'a> Model for Walker<'a> {
 impl<'a> Walker<'a> {
     ghost use Rattle.sight_lift.specs.SequenceLaws.Ways.{root_alone};
     ghost use Rattle.block_evidence.specs.SightTree.WholeTree.{IsWholeTree};
-    ghost use Rattle.portal_walk.specs.Nodes.{IsAnswered};
+    ghost use Rattle.portal_walk.specs.Nodes.{IsNodeAnswered};
     ghost use Rattle.portal_walk.specs.Sides.{IsExit};
-    ghost use Rattle.portal_walk.specs.Walk.{Goes, IsTop, Takes, Rests, SameWalk, pending, remaining};
+    ghost use Rattle.portal_walk.specs.Walk.{Goes, IsTop, TakesStep, Rests, SameWalk, pending, sequences_left};
 
     /// A walk at its beginning, over the terrain of the map.
     pub fn over(
@@ -81,9 +81,9 @@ impl<'a> Walker<'a> {
     /// After `Memory` the walk stands where it stood.
     pub fn next(&mut self) -> Result<Step, Memory>
         ensures walk { SameWalk self.old self.new }
-        ensures step { IfOk result (Takes self.old self.new) }
+        ensures step { IfOk result (TakesStep self.old self.new) }
         ensures memory { OnErr result (Rests self.old self.new) }
-        ensures end { remaining self.old ≡ 0 → result ≡ Ok Step.End }
+        ensures end { sequences_left self.old ≡ 0 → result ≡ Ok Step.End }
     {
         self.walk.next()
     }
@@ -99,7 +99,7 @@ impl<'a> Walker<'a> {
         ensures walk { SameWalk self.old self.new }
         ensures went { IfOk result (Goes self.old self.new) }
         ensures memory { OnErr result (Rests self.old self.new) }
-        ensures end { remaining self.old ≡ 0 → result ≡ Ok Went.End }
+        ensures end { sequences_left self.old ≡ 0 → result ≡ Ok Went.End }
     {
         self.walk.go()
     }
@@ -132,10 +132,10 @@ impl<'a> Walker<'a> {
 
     /// All nodes that were answered, in order: a whole tree of the source.
     pub fn tree(self) -> Tree
-        requires { remaining self ≡ 0 }
+        requires { sequences_left self ≡ 0 }
         ensures source { result.source ≡ self.entry.source }
         ensures nodes { result.nodes ≡ self.entry.nodes }
-        ensures answered { All IsAnswered result.nodes }
+        ensures answered { All IsNodeAnswered result.nodes }
         ensures whole { (opened : List ℕ) × IsWholeTree (map_of self.entry.plan) self.entry.mesh.triangles self.entry.labels result opened }
     {
         self.walk.tree()

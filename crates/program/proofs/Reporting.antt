@@ -3,7 +3,7 @@ use Rattle.std.proofs.Common.{◌≡◌, ◌∙◌, ℕ, List, Option, Some, Res
 use Rattle.listeners.specs.declared.finding.Finding.{Finding}
 use Rattle.listeners.specs.Listening.{ListenerState}
 use Rattle.listeners.specs.Reporters.{new_reporters}
-use Rattle.listeners.specs.Told.{AreTold}
+use Rattle.listeners.specs.Told.{AreFindingsTold}
 use Rattle.listeners.proofs.Reports.{report_of_both, texts_of_both}
 use Rattle.map_answers.specs.Input.{LocatedMap, OnFound}
 use Rattle.order_words.specs.declared.order.Order.{Order}
@@ -17,9 +17,9 @@ use Rattle.map_answers.specs.declared.sight_status.status.Status.{Status}
 use Rattle.map_answers.specs.declared.sight_status.status.Status.TheVariants as status
 use Rattle.sight_run.specs.Build.{BuildCalls, build_writes}
 use Rattle.sight_run.specs.Heard.{AllHeard, AreFindingsIn, Hears}
-use Rattle.sight_run.specs.Obeys.{AnswersAsked}
+use Rattle.sight_run.specs.Obeys.{AnswersOrder}
 use Rattle.sight_run.specs.Reading.{found_of}
-use Rattle.sight_run.specs.Run.{put_all}
+use Rattle.sight_run.specs.Run.{put_outputs}
 use Rattle.sight_run.specs.Words.{asked_of}
 use Rattle.sight_run.proofs.Stood.{asked_is, under_report}
 use Rattle.program.specs.Words.{HoldsReport, LeavesReport, Reports, RunsWords, is_reported, listeners_where}
@@ -33,8 +33,8 @@ module _ (words : List (List ℕ)) (files : Files) (before after : ShelfState) (
   told : AllHeard (AreFindingsIn (Some files) wad name method) h.heard
   told = subst (λ (r : Result Order Status). Hears r (Some files) h.heard status.Done) is_asked h.hears
 
-  told_both : (fs : List Finding) (text : List ℕ) → AreTold fs h.heard.before h.heard.after text → AreTold fs new_reporters h.heard.after text
-  told_both fs text t = subst (λ (l : List ListenerState). AreTold fs l h.heard.after text) given t
+  told_both : (fs : List Finding) (text : List ℕ) → AreFindingsTold fs h.heard.before h.heard.after text → AreFindingsTold fs new_reporters h.heard.after text
+  told_both fs text t = subst (λ (l : List ListenerState). AreFindingsTold fs l h.heard.after text) given t
 
   abbrev answer : Answer
   answer = h.ends.ends.answer
@@ -42,10 +42,10 @@ module _ (words : List (List ℕ)) (files : Files) (before after : ShelfState) (
   on_found : (r : Result LocatedMap Status) → OnFound r (BuildCalls name out cert (Some report) method h.heard) (Ok answer) → HoldsReport files after.files wad name report method
   on_found (Err s) q = absurd cc
   on_found (Ok found) q = record {
-    others = put_all files answer.writes;
+    others = put_outputs files answer.writes;
     told = h.ends.ends.stands;
     bytes = q.report;
-    stands = ap (λ (a : Answer). put_all files a.writes report) q.is ∙ under_report files (build_writes out q.bytes cert q.spelled) report q.report;
+    stands = ap (λ (a : Answer). put_outputs files a.writes report) q.is ∙ under_report files (build_writes out q.bytes cert q.spelled) report q.report;
     is = record {
       findings = told.0;
       are = told.1;
@@ -54,7 +54,7 @@ module _ (words : List (List ℕ)) (files : Files) (before after : ShelfState) (
   }
 
   pub holds_report : HoldsReport files after.files wad name report method
-  holds_report = on_found (found_of wad name files) (subst (λ (r : Result Order Status). AnswersAsked r files h.heard (Ok answer)) is_asked h.ends.ends.called.called)
+  holds_report = on_found (found_of wad name files) (subst (λ (r : Result Order Status). AnswersOrder r files h.heard (Ok answer)) is_asked h.ends.ends.called.called)
 
 pub reports : (words : List (List ℕ)) (files : Files) (before after : ShelfState) (old new : SinkState) (s : Status) → RunsWords words files before after old new s → Reports words files after.files s
 reports words files before after old new status.Done h = by (asked_of words) refl

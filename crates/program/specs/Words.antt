@@ -13,15 +13,15 @@ use Rattle.shelf_io.specs.Sink.{SinkState}
 use Rattle.sight_names.specs.declared.names.Method.{Method}
 use Rattle.map_answers.specs.declared.sight_status.status.Status.{Status}
 use Rattle.map_answers.specs.declared.sight_status.status.Status.TheVariants as status
-use Rattle.map_answers.specs.SightStatus.Status.{number_of}
-use Rattle.sight_run.specs.Heard.{AreFindingsIn, Heard, Hears}
+use Rattle.map_answers.specs.SightStatus.Status.{exit_status_of}
+use Rattle.sight_run.specs.Heard.{AreFindingsIn, ListenersHeard, Hears}
 use Rattle.sight_run.specs.Run.{RunEnds}
 use Rattle.sight_run.specs.Words.{asked_of}
 
 -- the exit code of a run of words that ended so; an audit that reports faults ends as one that refuses their map
 abbrev pub ended_number : Bool → Status → ℕ
 ended_number true status.NotRight = 10
-ended_number audits s = number_of s
+ended_number audits s = exit_status_of s
 
 -- the order is a build of one map with a report
 abbrev pub is_reported : Option Order → Bool
@@ -35,13 +35,13 @@ listeners_where false = []
 
 -- some listeners that were these heard what the status says of the words
 pub record HearsGiven (given : List ListenerState) (words : List (List ℕ)) (told : Option Files) (s : Status) : Type 0 where
-  pub heard : Heard
+  pub heard : ListenersHeard
   pub given_are : heard.before ≡ given
   pub hears : Hears (asked_of words) told heard s
 
 -- all that `run` promises of the words, with these listeners before it
 pub record RunsHeard (given : List ListenerState) (words : List (List ℕ)) (files : Files) (before after : ShelfState) (old new : SinkState) (s : Status) : Type 0 where
-  pub heard : Heard
+  pub heard : ListenersHeard
   pub given_are : heard.before ≡ given
   pub ends : RunEnds words files heard before after old new s
   pub hears : Hears (asked_of words) (Some files) heard s
@@ -53,7 +53,7 @@ RunsWords words files before after old new s = RunsHeard (listeners_where (is_re
 -- ---- what a report holds
 
 -- the lines of the findings of the map by this method, and their totals
-pub record IsReportOf (files : Files) (wad : Source) (name : List ℕ) (method : Method) (report : List ℕ) : Type 0 where
+pub record IsFindingsReport (files : Files) (wad : Source) (name : List ℕ) (method : Method) (report : List ℕ) : Type 0 where
   pub findings : List Finding
   pub are : AreFindingsIn (Some files) wad name method findings
   pub is : report ≡ finding_lines findings ++ totals_line findings
@@ -64,7 +64,7 @@ pub record HoldsReport (files : Files) (after : Option Files) (wad : Source) (na
   pub told : after ≡ Some others
   pub bytes : List ℕ
   pub stands : others report ≡ Some bytes
-  pub is : IsReportOf files wad name method bytes
+  pub is : IsFindingsReport files wad name method bytes
 
 -- where the order is a build of one map with a report, this stands in the report's file
 abbrev pub LeavesReport : Result Order Status → Files → Option Files → Type 0

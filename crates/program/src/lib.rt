@@ -3,7 +3,7 @@
 
 ghost use Rattle.std.specs.Prelude.{◌≡◌};
 ghost use Rattle.std.specs.Process.{exit_status};
-ghost use Rattle.map_answers.specs.SightStatus.Status.{number_of};
+ghost use Rattle.map_answers.specs.SightStatus.Status.{exit_status_of};
 ghost use Rattle.program.specs.Words.{ended_number};
 
 pub mod answers;
@@ -40,7 +40,7 @@ use words::{NoWords, words_of};
 const REPORTED: u8 = 10;
 
 fn exit_code(status: &Status) -> ExitCode
-    ensures { exit_status result ≡ number_of status.now }
+    ensures { exit_status result ≡ exit_status_of status.now }
 {
     ExitCode::from(code(status))
 }

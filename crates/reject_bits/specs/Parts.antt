@@ -11,7 +11,7 @@ pub record TableParts : Type 0 where
   pub bytes : List ℕ
 
 -- a table has the length that its sectors ask, and its spare bits are zero
-pub record IsWhole (t : TableParts) : Type 0 where
+pub record IsTableWhole (t : TableParts) : Type 0 where
   pub len : IsTable t.n t.bytes
   pub no_spare : HasNoSpareBit t.n t.bytes
 
@@ -24,10 +24,10 @@ abbrev pub HasSameBits : ℕ → List ℕ → List ℕ → Type 0
 HasSameBits n s t = (k : ℕ) → k < n * n → table_bit t k ≡ table_bit s k
 
 -- bytes are taken as a table exactly where their length is that of a table; the fault has both lengths
-abbrev pub Takes : ℕ → List ℕ → Result TableParts TableFault → Type 0
-Takes n bytes (Ok t) = (t.n ≡ n) × HasSameBits n bytes t.bytes × IsTable n bytes
-Takes n bytes (Err (WrongLength found expected)) = (found ≡ length bytes) × (expected ≡ div_ceil (n * n) 8) × (found ≢ expected)
-Takes n bytes (Err (Memory _)) = ⊤
+abbrev pub TakesBytes : ℕ → List ℕ → Result TableParts TableFault → Type 0
+TakesBytes n bytes (Ok t) = (t.n ≡ n) × HasSameBits n bytes t.bytes × IsTable n bytes
+TakesBytes n bytes (Err (WrongLength found expected)) = (found ≡ length bytes) × (expected ≡ div_ceil (n * n) 8) × (found ≢ expected)
+TakesBytes n bytes (Err (Memory _)) = ⊤
 
 -- the bit of the pair is set, and every other bit is as before
 pub record SetsPair (old new : TableParts) (a b : ℕ) : Type 0 where

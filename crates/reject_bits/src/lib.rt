@@ -20,23 +20,23 @@ pub struct Table {
 }
 
 impl Model for Table {
-    ghost use Rattle.reject_bits.specs.Parts.{TableParts, IsWhole};
+    ghost use Rattle.reject_bits.specs.Parts.{TableParts, IsTableWhole};
 
     ghost Value = { TableParts };
 
     ghost view = { λ t. record { n = t.n; bytes = t.bytes.items } };
 
-    ghost invariant = { λ t. IsWhole (record { n = t.n; bytes = t.bytes.items }) };
+    ghost invariant = { λ t. IsTableWhole (record { n = t.n; bytes = t.bytes.items }) };
 }
 
 impl Table {
-    ghost use Rattle.reject_bits.specs.Parts.{HasOtherBits, Rejects, Takes, SetsPair, KeepsOtherPairs, IsWhole};
+    ghost use Rattle.reject_bits.specs.Parts.{HasOtherBits, Rejects, TakesBytes, SetsPair, KeepsOtherPairs, IsTableWhole};
 
     /// The table in which no bit is set.
     pub fn clear(alloc: Global, n: u16) -> Result<Table, Memory>
         ensures sectors { IfOk result (λ t. t.n ≡ n) }
         ensures zero { IfOk result (λ t. t.bytes ≡ replicate (div_ceil (n * n) 8) 0) }
-        ensures whole { IfOk result IsWhole }
+        ensures whole { IfOk result IsTableWhole }
     {
         let bytes = vec![in alloc; 0; byte_len(n)]?;
         Ok(Table { n, bytes })
@@ -48,8 +48,8 @@ impl Table {
     ///
     /// `WrongLength` where the bytes are more or fewer than a table of `n` sectors has.
     pub fn of_bytes(alloc: Global, n: u16, bytes: &[u8]) -> Result<Table, TableFault>
-        ensures takes { Takes n bytes.now result }
-        ensures whole { IfOk result IsWhole }
+        ensures takes { TakesBytes n bytes.now result }
+        ensures whole { IfOk result IsTableWhole }
     {
         let expected = byte_len(n);
         if bytes.len() != expected {
@@ -73,7 +73,7 @@ impl Table {
     /// The bytes of the lump, its spare bits zero.
     pub fn as_bytes(&self) -> &[u8]
         ensures bytes { result.now ≡ self.now.bytes }
-        ensures whole { IsWhole self.now }
+        ensures whole { IsTableWhole self.now }
     {
         self.bytes.as_slice()
     }
@@ -84,7 +84,7 @@ impl Table {
         requires to { b < self.old.n }
         ensures bit { SetsPair self.old self.new a b }
         ensures pairs { KeepsOtherPairs self.old self.new a b }
-        ensures whole { IsWhole self.new }
+        ensures whole { IsTableWhole self.new }
     {
         let bit = place(self.n, a, b);
         set_bit(self.bytes.as_mut_slice(), bit);
@@ -93,7 +93,7 @@ impl Table {
     /// The table with the bits that this one hasn't, byte by byte.
     pub fn others(self) -> Table
         ensures bits { HasOtherBits self result }
-        ensures whole { IsWhole result }
+        ensures whole { IsTableWhole result }
     {
         let Table { n, bytes: old } = self;
         let mut bytes = old;

@@ -11,9 +11,9 @@ abbrev pub code_of : ℕ → List ℕ
 code_of c = codes "\\u00" ++ hex_digit (c / 16) ∷ hex_digit (c % 16) ∷ []
 
 -- a quotation mark and a backslash stand behind a backslash, other printing bytes of ASCII as they are, and each other one as its code
-abbrev pub escaped : ℕ → List ℕ
-escaped c = if c == 34 then codes "\\\"" else (if c == 92 then codes "\\\\" else (if nat_le 32 c && nat_le c 126 then c ∷ [] else code_of c))
+abbrev pub escaped_code : ℕ → List ℕ
+escaped_code c = if c == 34 then codes "\\\"" else (if c == 92 then codes "\\\\" else (if nat_le 32 c && nat_le c 126 then c ∷ [] else code_of c))
 
 -- .. between quotation marks
 unfoldable pub quoted : List ℕ → List ℕ
-quoted text = codes "\"" ++ flat_map escaped text ++ codes "\""
+quoted text = codes "\"" ++ flat_map escaped_code text ++ codes "\""

@@ -2,7 +2,7 @@
 
 ghost use Rattle.std.specs.Prelude.{◌≡◌, ◌++◌, ◌∷◌, ◌<◌, [], OnOk, codes, string_bytes};
 ghost use Rattle.std.specs.List.{flat_map};
-ghost use Rattle.row_spelling.specs.Quoted.{code_of, escaped, hex_digit, quoted};
+ghost use Rattle.row_spelling.specs.Quoted.{code_of, escaped_code, hex_digit, quoted};
 
 use std::alloc::AllocError;
 
@@ -37,7 +37,7 @@ fn push_code(line: &mut String, c: u8) -> Result<(), AllocError>
 
 /// Adds what a byte is in a string.
 fn push_escaped(line: &mut String, c: u8) -> Result<(), AllocError>
-    ensures { OnOk result (string_bytes line.new ≡ string_bytes line.old ++ escaped c) }
+    ensures { OnOk result (string_bytes line.new ≡ string_bytes line.old ++ escaped_code c) }
 {
     if c == b'"' {
         return line.push_str("\\\"");
@@ -53,7 +53,7 @@ fn push_escaped(line: &mut String, c: u8) -> Result<(), AllocError>
 
 /// Adds what these bytes are in a string.
 fn push_each(line: &mut String, text: &[u8]) -> Result<(), AllocError>
-    ensures { OnOk result (string_bytes line.new ≡ string_bytes line.old ++ flat_map escaped text.now) }
+    ensures { OnOk result (string_bytes line.new ≡ string_bytes line.old ++ flat_map escaped_code text.now) }
 {
     for c in text {
         push_escaped(line, *c)?;

@@ -9,8 +9,8 @@ use Rattle.sight_names.specs.declared.names.Pt.{Pt}
 use Rattle.sight_names.specs.Splitting.{EndPoints, IsSplittable}
 use Rattle.sight_names.proofs.Records.{same_pt}
 use Rattle.stab_hull.specs.declared.frame.Noted.{Noted}
-use Rattle.stab_hull.specs.Portals.{portal_of, portals_of}
-use Rattle.stab_hull.specs.Sleeves.{HasLastLeft, HasLastRight, frame_of, frames_of}
+use Rattle.stab_hull.specs.Portals.{ends_of_frame, portals_of}
+use Rattle.stab_hull.specs.Sleeves.{HasLastLeft, HasLastRight, noted_frame, frames_of}
 use Rattle.portal_walk.proofs.OnePortal.{one_splittable}
 use Rattle.row_trees.specs.Path.{HasEndOfLast}
 
@@ -28,13 +28,13 @@ module _ {N : Type 0} where
   pub none_of : (xs : List (Noted N)) → xs ≡ [] → portals_of (frames_of xs) ≡ []
   none_of xs h = ap (λ (us : List (Noted N)). portals_of (frames_of us)) h
 
-  last_end : (xs : List (Noted N)) (x : Noted N) → slice_get xs (length xs - 1) ≡ Some x → slice_get (portals_of (frames_of xs)) (length (portals_of (frames_of xs)) - 1) ≡ Some (portal_of x.frame)
+  last_end : (xs : List (Noted N)) (x : Noted N) → slice_get xs (length xs - 1) ≡ Some x → slice_get (portals_of (frames_of xs)) (length (portals_of (frames_of xs)) - 1) ≡ Some (ends_of_frame x.frame)
   last_end xs x h =
-      ap (λ (n : ℕ). slice_get (portals_of (frames_of xs)) (n - 1)) (length-map (frames_of xs) portal_of ∙ length-map xs frame_of) ∙ slice_get-map portal_of (frames_of xs) (length xs - 1)
-      ∙ ap (option_map portal_of) (slice_get-map frame_of xs (length xs - 1) ∙ ap (option_map frame_of) h)
+      ap (λ (n : ℕ). slice_get (portals_of (frames_of xs)) (n - 1)) (length-map (frames_of xs) ends_of_frame ∙ length-map xs noted_frame) ∙ slice_get-map ends_of_frame (frames_of xs) (length xs - 1)
+      ∙ ap (option_map ends_of_frame) (slice_get-map noted_frame xs (length xs - 1) ∙ ap (option_map noted_frame) h)
 
   pub last_left : (xs : List (Noted N)) (x : Noted N) → slice_get xs (length xs - 1) ≡ Some x → HasLastLeft (portals_of (frames_of xs)) x.frame.left
-  last_left xs x h = (portal_of x.frame, last_end xs x h, refl)
+  last_left xs x h = (ends_of_frame x.frame, last_end xs x h, refl)
 
 -- the last left end is the portal's own, or the last right one is
 pub has_left : (es : List EndPoints) (last left : Pt) → HasLastLeft es last → last ≡ left → HasLastLeft es left

@@ -18,24 +18,24 @@ use Rattle.mesh_base.specs.SightLaws.Laws.{IsOpenRay}
 use Rattle.sight_lift.proofs.Back.{ray_of_sequence}
 use Rattle.stab_hull.specs.Answer.{IsLineInRange}
 use Rattle.mesh_shape.specs.declared.half_edges.table.HalfEdge.{HalfEdge}
-use Rattle.mesh_shape.specs.HalfEdges.HalfEdges.{portal_of}
+use Rattle.mesh_shape.specs.HalfEdges.HalfEdges.{portal_into}
 use Rattle.mesh_shape.specs.HalfEdges.Kinds.{IsEnteredAt, IsPassableAt}
 use Rattle.portal_walk.specs.Sides.{ArrivesAt, IsArrival}
-use Rattle.portal_walk.specs.Walk.{ends_of}
+use Rattle.portal_walk.specs.Walk.{half_edge_ends}
 use Rattle.portal_walk.proofs.Lists.{get_more}
 use Rattle.pair_budget.specs.declared.results.Reached.{Reached}
 use Rattle.pair_budget.specs.Walked.{IsReachedFrom}
 use Rattle.gate_floods.specs.declared.row_judge.follow.RowFollow.{RowFollow}
 use Rattle.gate_floods.specs.declared.row_judge.walk.RowWalk.{RowWalk}
-use Rattle.gate_floods.specs.RowJudge.Words.{row_at, is_in, is_away}
+use Rattle.gate_floods.specs.RowJudge.Words.{row_in_words, is_in, is_away}
 use Rattle.gate_floods.specs.RowJudge.Asked.{Pending}
 use Rattle.gate_floods.specs.RowJudge.Judged.{StandsAt}
 use Rattle.cert_checker.proofs.SightRays.{open_is_sight}
 use Rattle.row_trees.specs.Finding.{had_in, wanted_in, IsAlong}
 use Rattle.row_trees.specs.Walkable.{Scene, Search, IsWalkable}
-use Rattle.row_trees.specs.Thinner.{IsWithin, IsPresent, AreThinner, SameButRows, AreThinned}
+use Rattle.row_trees.specs.Thinner.{IsRowWithin, IsPresent, AreThinner, SameButRows, AreThinned}
 use Rattle.row_trees.specs.Left.{most, weight}
-use Rattle.row_trees.specs.Going.{GoesOn, IsToCome, IsTried}
+use Rattle.row_trees.specs.Going.{GoesOnByRoot, IsToCome, IsTried}
 use Rattle.row_trees.proofs.Thin.{out_of, away_of, within_through}
 use Rattle.row_trees.proofs.Thinning.{all_thinned, weight_thinned, stands_thinned}
 use Rattle.row_trees.proofs.Coming.{label_at}
@@ -43,36 +43,36 @@ use Rattle.row_trees.proofs.Going.{HeadOf, head_of, come_thinned}
 
 -- ---- the sector that is wanted
 
-had_some : (rows : List ℕ) (w at : ℕ) (o : Option ℕ) (to : ℕ) → had_in rows w at o ≡ Some to → (o ≡ Some to) × (is_in (row_at rows w at) to ≡ true)
+had_some : (rows : List ℕ) (w at : ℕ) (o : Option ℕ) (to : ℕ) → had_in rows w at o ≡ Some to → (o ≡ Some to) × (is_in (row_in_words rows w at) to ≡ true)
 had_some rows w at None to e = absurd (none_is_not_some to e)
-had_some rows w at (Some b) to e = by (is_in (row_at rows w at) b) refl
+had_some rows w at (Some b) to e = by (is_in (row_in_words rows w at) b) refl
   where
-    by : (t : Bool) → is_in (row_at rows w at) b ≡ t → ◌≡◌ {A = Option ℕ} (Some b) (Some to) × (is_in (row_at rows w at) to ≡ true)
+    by : (t : Bool) → is_in (row_in_words rows w at) b ≡ t → ◌≡◌ {A = Option ℕ} (Some b) (Some to) × (is_in (row_in_words rows w at) to ≡ true)
     by true h =
         let same : b ≡ to = some_is_same b to (sym (ap (λ (d : Bool). let o : Option ℕ = if d then Some b else None in o) h) ∙ e) in
-        (ap (λ (n : ℕ). let o : Option ℕ = Some n in o) same, subst (λ (n : ℕ). is_in (row_at rows w at) n ≡ true) same h)
+        (ap (λ (n : ℕ). let o : Option ℕ = Some n in o) same, subst (λ (n : ℕ). is_in (row_in_words rows w at) n ≡ true) same h)
     by false h = absurd (none_is_not_some to (sym (ap (λ (d : Bool). let o : Option ℕ = if d then Some b else None in o) h) ∙ e))
 
-pub wanted_some : (rows : List ℕ) (w at : ℕ) (x : HalfEdge) (to : ℕ) → wanted_in rows w at x ≡ Some to → (x.sector ≡ Some to) × (is_in (row_at rows w at) to ≡ true)
+pub wanted_some : (rows : List ℕ) (w at : ℕ) (x : HalfEdge) (to : ℕ) → wanted_in rows w at x ≡ Some to → (x.sector ≡ Some to) × (is_in (row_in_words rows w at) to ≡ true)
 wanted_some rows w at x to e = by x.entered refl
   where
-    by : (o : Option Side) → x.entered ≡ o → (x.sector ≡ Some to) × (is_in (row_at rows w at) to ≡ true)
+    by : (o : Option Side) → x.entered ≡ o → (x.sector ≡ Some to) × (is_in (row_in_words rows w at) to ≡ true)
     by None h = absurd (none_is_not_some to (sym (ap (option_and_then (λ (d : Side). had_in rows w at x.sector)) h) ∙ e))
     by (Some d) h = had_some rows w at x.sector to (sym (ap (option_and_then (λ (d : Side). had_in rows w at x.sector)) h) ∙ e)
 
-had_none : (rows : List ℕ) (w at : ℕ) (o : Option ℕ) → had_in rows w at o ≡ None → is_away (row_at rows w at) o ≡ true
+had_none : (rows : List ℕ) (w at : ℕ) (o : Option ℕ) → had_in rows w at o ≡ None → is_away (row_in_words rows w at) o ≡ true
 had_none rows w at None e = refl
-had_none rows w at (Some b) e = by (is_in (row_at rows w at) b) refl
+had_none rows w at (Some b) e = by (is_in (row_in_words rows w at) b) refl
   where
-    by : (t : Bool) → is_in (row_at rows w at) b ≡ t → is_away (row_at rows w at) (Some b) ≡ true
+    by : (t : Bool) → is_in (row_in_words rows w at) b ≡ t → is_away (row_in_words rows w at) (Some b) ≡ true
     by true h = absurd (none_is_not_some b (sym e ∙ ap (λ (d : Bool). let o : Option ℕ = if d then Some b else None in o) h))
-    by false h = away_of (row_at rows w at) b h
+    by false h = away_of (row_in_words rows w at) b h
 
 -- where none is wanted, the row doesn't have the sector; behind a half-edge of no line it never does
-pub wanted_none : (rows : List ℕ) (w at : ℕ) (x : HalfEdge) → (x.entered ≡ None → is_away (row_at rows w at) x.sector ≡ true) → wanted_in rows w at x ≡ None → is_away (row_at rows w at) x.sector ≡ true
+pub wanted_none : (rows : List ℕ) (w at : ℕ) (x : HalfEdge) → (x.entered ≡ None → is_away (row_in_words rows w at) x.sector ≡ true) → wanted_in rows w at x ≡ None → is_away (row_in_words rows w at) x.sector ≡ true
 wanted_none rows w at x away e = by x.entered refl
   where
-    by : (o : Option Side) → x.entered ≡ o → is_away (row_at rows w at) x.sector ≡ true
+    by : (o : Option Side) → x.entered ≡ o → is_away (row_in_words rows w at) x.sector ≡ true
     by None h = away h
     by (Some d) h = had_none rows w at x.sector (sym (ap (option_and_then (λ (d : Side). had_in rows w at x.sector)) h) ∙ e)
 
@@ -103,16 +103,16 @@ once_more found r once other i j a b l e f = elim (get_more found r i a e) as (�
 module _ (c : Scene) (s : Search) where
   -- ---- a ray through the sequence
 
-  module _ (w : IsWalkable s.ground c.edges c.roots c.firsts s.source) (root : ℕ) (ends : List EndPoints) (x : HalfEdge) (on : GoesOn c s root ends x) (label : label_of s.ground.labels x.triangle ≡ x.sector) (to : ℕ) (sector : x.sector ≡ Some to) (r : Reached) (along : IsAlong c.edges (Some root) x to r)
-      (splits : SplitsEnds (ends ++ ends_of x ∷ []) r.ray.a r.ray.b r.ray.c) (range : IsLineInRange r.ray.a r.ray.b r.ray.c) where
+  module _ (w : IsWalkable s.ground c.edges c.roots c.firsts s.source) (root : ℕ) (ends : List EndPoints) (x : HalfEdge) (on : GoesOnByRoot c s root ends x) (label : label_of s.ground.labels x.triangle ≡ x.sector) (to : ℕ) (sector : x.sector ≡ Some to) (r : Reached) (along : IsAlong c.edges (Some root) x to r)
+      (splits : SplitsEnds (ends ++ half_edge_ends x ∷ []) r.ray.a r.ray.b r.ray.c) (range : IsLineInRange r.ray.a r.ray.b r.ray.c) where
     first : on.sequence.root ≡ r.ray.first
     first = some_is_same on.sequence.root r.ray.first (sym on.leaves ∙ along.first)
 
     arrival : IsArrival s.ground.plan s.ground.labels x.triangle r.ray.last
     arrival = subst (ArrivesAt s.ground.plan s.ground.labels x.triangle) along.last on.comes.entry.arrives
 
-    at : IsPassableAt s.ground.plan (entry_edge (portal_of x)) r.ray.last
-    at = subst (IsEnteredAt s.ground.plan (portal_of x)) along.last on.comes.entry.entered
+    at : IsPassableAt s.ground.plan (entry_edge (portal_into x)) r.ray.last
+    at = subst (IsEnteredAt s.ground.plan (portal_into x)) along.last on.comes.entry.entered
 
     sector_is : arrival.sector ≡ r.to
     sector_is = some_is_same arrival.sector r.to (sym arrival.label ∙ label ∙ sector ∙ ap (λ (n : ℕ). let o : Option ℕ = Some n in o) (sym along.to_it))
@@ -130,8 +130,8 @@ module _ (c : Scene) (s : Search) where
 
     open_ray : IsOpenRay (map_of s.ground.plan) r.ray
     open_ray = subst (λ (d : Side). IsOpenRay (map_of s.ground.plan) (record { first = d; last = r.ray.last; a = r.ray.a; b = r.ray.b; c = r.ray.c })) first
-        (ray_of_sequence (map_of s.ground.plan) (plan_is_map s.ground.plan w.plan) s.ground.triangles s.ground.labels w.good s.source on.sequence (on.comes.before ++ portal_of x ∷ []) on.comes.sequence r.ray.a r.ray.b r.ray.c
-        (subst (λ (es : List EndPoints). SplitsEnds es r.ray.a r.ray.b r.ray.c) on.comes.ends splits) (portal_of x) (last_pushed (portal_of x) on.comes.before None) r.ray.last at.line at.is_line (sym at.edge))
+        (ray_of_sequence (map_of s.ground.plan) (plan_is_map s.ground.plan w.plan) s.ground.triangles s.ground.labels w.good s.source on.sequence (on.comes.before ++ portal_into x ∷ []) on.comes.sequence r.ray.a r.ray.b r.ray.c
+        (subst (λ (es : List EndPoints). SplitsEnds es r.ray.a r.ray.b r.ray.c) on.comes.ends splits) (portal_into x) (last_pushed (portal_into x) on.comes.before None) r.ray.last at.line at.is_line (sym at.edge))
 
     pub sight_ray : IsSightRay (map_of s.ground.plan) r.ray s.source r.to
     sight_ray = open_is_sight (map_of s.ground.plan) r.ray s.source r.to open_ray reached_from.range reached_from.from reached_from.to_it
@@ -140,16 +140,16 @@ module _ (c : Scene) (s : Search) where
 
   -- ---- what isn't wanted
 
-  pub none_wanted : (root : ℕ) (ends : List EndPoints) (w : RowWalk) (found : List Reached) (x : HalfEdge) (n : ℕ) → IsTried c s root ends w found x n → wanted_in w.rows.items c.masks.width w.follow.row x ≡ None → is_away (row_at w.rows.items c.masks.width w.follow.row) x.sector ≡ true
+  pub none_wanted : (root : ℕ) (ends : List EndPoints) (w : RowWalk) (found : List Reached) (x : HalfEdge) (n : ℕ) → IsTried c s root ends w found x n → wanted_in w.rows.items c.masks.width w.follow.row x ≡ None → is_away (row_in_words w.rows.items c.masks.width w.follow.row) x.sector ≡ true
   none_wanted root ends w found x n t =
       let h = head_of c s root ends w found x n t in
       wanted_none w.rows.items c.masks.width w.follow.row x (λ none. subst (λ (row : List ℕ). is_away row x.sector ≡ true) h.row_is (h.away none))
 
   -- ---- what was found before, and this sector
 
-  pub found_more : (root : ℕ) (ends : List EndPoints) (old new : RowWalk) (found : List Reached) (x : HalfEdge) (n : ℕ) (t : IsTried c s root ends old found x n) (to : ℕ) → (x.sector ≡ Some to) × (is_in (row_at old.rows.items c.masks.width old.follow.row) to ≡ true)
-      → (r : Reached) → IsAlong c.edges (Some root) x to r → SplitsEnds (ends ++ ends_of x ∷ []) r.ray.a r.ray.b r.ray.c → IsLineInRange r.ray.a r.ray.b r.ray.c
-      → SameButRows old new → AreThinner old.rows.items new.rows.items → is_in (row_at new.rows.items c.masks.width 0) to ≡ false → IsPresent c.masks.width new → IsTried c s root ends new (found ++ r ∷ []) x n
+  pub found_more : (root : ℕ) (ends : List EndPoints) (old new : RowWalk) (found : List Reached) (x : HalfEdge) (n : ℕ) (t : IsTried c s root ends old found x n) (to : ℕ) → (x.sector ≡ Some to) × (is_in (row_in_words old.rows.items c.masks.width old.follow.row) to ≡ true)
+      → (r : Reached) → IsAlong c.edges (Some root) x to r → SplitsEnds (ends ++ half_edge_ends x ∷ []) r.ray.a r.ray.b r.ray.c → IsLineInRange r.ray.a r.ray.b r.ray.c
+      → SameButRows old new → AreThinner old.rows.items new.rows.items → is_in (row_in_words new.rows.items c.masks.width 0) to ≡ false → IsPresent c.masks.width new → IsTried c s root ends new (found ++ r ∷ []) x n
   found_more root ends old new found x n t to (sector, has) r along splits range same thinner gone here = record {
     going = record {
       walkable = t.going.walkable;
@@ -194,7 +194,7 @@ module _ (c : Scene) (s : Search) where
       sight : IsSightRay (map_of s.ground.plan) r.ray s.source r.to
       sight = sight_ray t.going.walkable root ends x h.goes_on label to sector r along splits range
 
-      m : (later : List ℕ) × (qs : List Pending) × StandsAt c.masks later c.roots new qs × AreThinned t.going.asked qs × IsWithin later t.going.first
+      m : (later : List ℕ) × (qs : List Pending) × StandsAt c.masks later c.roots new qs × AreThinned t.going.asked qs × IsRowWithin later t.going.first
       m = stands_thinned c.masks t.going.first c.roots old new t.going.asked same thinner t.going.at
 
       in_first : is_in t.going.first to ≡ true

@@ -6,7 +6,7 @@ use Rattle.math_base.proofs.Lists.{all_join, all_so}
 use Rattle.math_base.proofs.Options.{one_value, some_is_same}
 use Rattle.sight_names.specs.Splitting.{EndPoints, IsSplittable}
 use Rattle.block_evidence.specs.declared.Evidence.{Evidence}
-use Rattle.block_evidence.specs.Stuck.{Blocks}
+use Rattle.block_evidence.specs.Stuck.{BlocksEnds}
 use Rattle.stab_hull.specs.Answer.{IsBarredBy}
 use Rattle.block_evidence.specs.declared.sight_tree.Node.TheVariants.{Open, Blocked}
 use Rattle.block_evidence.specs.declared.sight_tree.Tree.{Tree}
@@ -18,21 +18,21 @@ use Rattle.cert_checker.specs.TreeJudge.Path.{path_ends}
 use Rattle.cert_checker.specs.TreeJudge.Walked.{with_node}
 use Rattle.portal_walk.specs.declared.scene.Way.TheVariants.{Left, Right}
 use Rattle.portal_walk.specs.Scene.{IsNumber}
-use Rattle.portal_walk.specs.Walk.{ends_of}
+use Rattle.portal_walk.specs.Walk.{half_edge_ends}
 use Rattle.pair_budget.specs.declared.results.Reached.{Reached}
 use Rattle.gate_floods.specs.RowJudge.Masks.{MaskRows}
 use Rattle.gate_floods.specs.declared.row_judge.follow.Wait.{Wait}
 use Rattle.gate_floods.specs.declared.row_judge.walk.RowWalk.{RowWalk}
-use Rattle.gate_floods.specs.RowJudge.Words.{row_at, is_away}
-use Rattle.gate_floods.specs.RowJudge.Asked.{Pending, pending_way, pending_roots, with_rest, leaves, mask_at, row_behind, row_through, way_asked, ways_behind, ways_through, ends_through, Answers, AreAnswered}
+use Rattle.gate_floods.specs.RowJudge.Words.{row_in_words, is_away}
+use Rattle.gate_floods.specs.RowJudge.Asked.{Pending, pending_way, pending_roots, with_rest, leaves, mask_of_edge, row_behind, row_through, way_asked, ways_behind, ways_through, ends_through, AnswersFirstInRow, AreAnswered}
 use Rattle.gate_floods.specs.RowJudge.Path.{AreWaiting}
-use Rattle.gate_floods.specs.RowJudge.Judged.{StandsAt, IsWalked}
+use Rattle.gate_floods.specs.RowJudge.Judged.{StandsAt, IsTreeWalkedInRow}
 use Rattle.gate_floods.proofs.RowJudge.Walking.{answered_more}
 use Rattle.row_trees.specs.Walkable.{Scene, Search, IsWalkable}
-use Rattle.row_trees.specs.Thinner.{IsWithin, IsPresent, IsThinned, AreThinned}
+use Rattle.row_trees.specs.Thinner.{IsRowWithin, IsPresent, IsThinned, AreThinned}
 use Rattle.row_trees.specs.Path.{HasEndOfLast}
-use Rattle.row_trees.specs.Left.{most, weight, weight_at, remaining}
-use Rattle.row_trees.specs.Going.{root_of, GoesOn, IsToCome, IsGoing, IsTried, IsAfter}
+use Rattle.row_trees.specs.Left.{most, weight, weight_at, row_walk_left}
+use Rattle.row_trees.specs.Going.{root_of_path, GoesOnByRoot, IsToCome, IsGoing, IsTried, IsAfter}
 use Rattle.row_trees.proofs.Thin.{left_within, away_more, out_of, within_through}
 use Rattle.row_trees.proofs.Thinning.{all_thinned, weight_thinned}
 use Rattle.row_trees.proofs.Weights.{front_long, weight_join, weighs, ways_weigh_less, remaining_is}
@@ -41,7 +41,7 @@ use Rattle.row_trees.proofs.Coming.{OnBy, way_on, not_long}
 -- ---- what is asked first, and how long the paths of the others are
 
 abbrev pub present : MaskRows → RowWalk → ℕ → Pending
-present ms w number = record { path = path_ends (take w.follow.depth w.path.items); row = row_at w.rows.items ms.width w.follow.row; edge = number }
+present ms w number = record { path = path_ends (take w.follow.depth w.path.items); row = row_in_words w.rows.items ms.width w.follow.row; edge = number }
 
 abbrev pub AreShorter : ℕ → List Pending → Type 0
 AreShorter d ps = AllByRecursion (λ (q : Pending). length q.path ≤ d) ps
@@ -70,14 +70,14 @@ pub record AsksFirst (ms : MaskRows) (w : RowWalk) (number : ℕ) (ps : List Pen
 pub asks_first : (ms : MaskRows) (first : List ℕ) (roots : List Root) (w : RowWalk) (ps : List Pending) (number : ℕ) → StandsAt ms first roots w ps → w.follow.asked ≡ Some number → AsksFirst ms w number ps
 asks_first ms first roots w ps number a e = record {
   rest = a.ways ++ pending_roots ms first a.es;
-  all = a.all ∙ ap (λ (o : Option ℕ). pending_way (path_ends (take w.follow.depth w.path.items)) (row_at w.rows.items ms.width w.follow.row) o ++ (a.ways ++ pending_roots ms first a.es)) e;
+  all = a.all ∙ ap (λ (o : Option ℕ). pending_way (path_ends (take w.follow.depth w.path.items)) (row_in_words w.rows.items ms.width w.follow.row) o ++ (a.ways ++ pending_roots ms first a.es)) e;
   shorter = all_join (λ (q : Pending). length q.path ≤ w.follow.depth) a.ways (pending_roots ms first a.es) (ways_shorter w.path.items w.rows.items ms.width w.waits.items w.follow.depth w.follow.row w.follow.depth a.ways a.depth_room (omega arith) a.waiting) (roots_shorter ms first a.es w.follow.depth);
   long = front_long w.path.items w.follow.depth a.depth_room;
 }
 
 -- ---- lists of ends
 
-pub root_of_more : (es : List EndPoints) (e : EndPoints) (i root : ℕ) → root_of (es ++ e ∷ []) i root ≡ root
+pub root_of_more : (es : List EndPoints) (e : EndPoints) (i root : ℕ) → root_of_path (es ++ e ∷ []) i root ≡ root
 root_of_more [] e i root = refl
 root_of_more (f ∷ es) e i root = refl
 
@@ -114,7 +114,7 @@ module _ (c : Scene) (s : Search) where
     within = h.within;
   }
 
-  root_kept : (es : List EndPoints) (i root later d : ℕ) → length es ≤ d → (d ≡ 0) ⊎ (later ≡ root) → root_of es i later ≡ root_of es i root
+  root_kept : (es : List EndPoints) (i root later d : ℕ) → length es ≤ d → (d ≡ 0) ⊎ (later ≡ root) → root_of_path es i later ≡ root_of_path es i root
   root_kept [] i root later d l h = refl
   root_kept (e ∷ es) i root later d l (inl none) = absurd (omega (arith, l, none))
   root_kept (e ∷ es) i root later d l (inr same) = same
@@ -124,7 +124,7 @@ module _ (c : Scene) (s : Search) where
   come_cut root later d ends p same l h = record {
     edge = h.edge;
     there = h.there;
-    goes_on = subst (λ (r : ℕ). GoesOn c s r p.path h.edge) (sym (root_kept p.path p.edge root later d l same)) h.goes_on;
+    goes_on = subst (λ (r : ℕ). GoesOnByRoot c s r p.path h.edge) (sym (root_kept p.path p.edge root later d l same)) h.goes_on;
     number_is = h.number_is;
     joins = h.joins;
     front = h.front ∙ sym (take-take (length p.path) d ends l);
@@ -144,14 +144,14 @@ module _ (c : Scene) (s : Search) where
     pub rest : List Pending
     pub all : ps ≡ head ∷ rest
     pub path_is : head.path ≡ ends
-    pub row_is : head.row ≡ row_at w.rows.items c.masks.width w.follow.row
+    pub row_is : head.row ≡ row_in_words w.rows.items c.masks.width w.follow.row
     pub there : slice_get c.edges head.edge ≡ Some x
     pub number_is : IsNumber s.ground.triangles head.edge
-    pub goes_on : GoesOn c s root ends x
+    pub goes_on : GoesOnByRoot c s root ends x
     pub joins : HasEndOfLast ends x.left_at x.right_at
     pub away : x.entered ≡ None → is_away head.row x.sector ≡ true
     pub short : length ends ≤ length s.ground.triangles
-    pub within : IsWithin head.row s.row
+    pub within : IsRowWithin head.row s.row
     pub shorter : AreShorter (length ends) rest
     pub others : AllByRecursion (IsToCome c s root ends) rest
 
@@ -164,7 +164,7 @@ module _ (c : Scene) (s : Search) where
     row_is = refl;
     there = t.there;
     number_is = h.number_is;
-    goes_on = subst (λ (y : HalfEdge). GoesOn c s root ends y) same (subst (λ (r : ℕ). GoesOn c s r ends h.edge) t.begun (subst (λ (es : List EndPoints). GoesOn c s (root_of es t.number root) es h.edge) path_is h.goes_on));
+    goes_on = subst (λ (y : HalfEdge). GoesOnByRoot c s root ends y) same (subst (λ (r : ℕ). GoesOnByRoot c s r ends h.edge) t.begun (subst (λ (es : List EndPoints). GoesOnByRoot c s (root_of_path es t.number root) es h.edge) path_is h.goes_on));
     joins = subst (λ (y : HalfEdge). HasEndOfLast ends y.left_at y.right_at) same (subst (λ (es : List EndPoints). HasEndOfLast es h.edge.left_at h.edge.right_at) path_is h.joins);
     away = subst (λ (y : HalfEdge). y.entered ≡ None → is_away p.row y.sector ≡ true) same h.away;
     short = subst (λ (es : List EndPoints). length es ≤ length s.ground.triangles) path_is h.short;
@@ -193,14 +193,14 @@ module _ (c : Scene) (s : Search) where
 
   -- ---- the ways behind it
 
-  with_rest_is : (row : List ℕ) (i : ℕ) (b : Bool) → leaves row (mask_at c.masks i) ≡ b → with_rest c.masks row i ≡ (let o : Option ℕ = if b then Some i else None in o)
+  with_rest_is : (row : List ℕ) (i : ℕ) (b : Bool) → leaves row (mask_of_edge c.masks i) ≡ b → with_rest c.masks row i ≡ (let o : Option ℕ = if b then Some i else None in o)
   with_rest_is row i b h = ap (λ (d : Bool). let o : Option ℕ = if d then Some i else None in o) h
 
   way_holds : (P : Pending → Type 0) (ends : List EndPoints) (row : List ℕ) (o : Option ℕ) → ((i : ℕ) → o ≡ Some i → P (record { path = ends; row = row; edge = i })) → AllByRecursion P (pending_way ends row (option_and_then (with_rest c.masks row) o))
   way_holds P ends row None h = tt
-  way_holds P ends row (Some i) h = by (leaves row (mask_at c.masks i)) refl
+  way_holds P ends row (Some i) h = by (leaves row (mask_of_edge c.masks i)) refl
     where
-      by : (b : Bool) → leaves row (mask_at c.masks i) ≡ b → AllByRecursion P (pending_way ends row (with_rest c.masks row i))
+      by : (b : Bool) → leaves row (mask_of_edge c.masks i) ≡ b → AllByRecursion P (pending_way ends row (with_rest c.masks row i))
       by true e = subst (λ (o : Option ℕ). AllByRecursion P (pending_way ends row o)) (sym (with_rest_is row i true e)) (h i refl, tt)
       by false e = subst (λ (o : Option ℕ). AllByRecursion P (pending_way ends row o)) (sym (with_rest_is row i false e)) tt
 
@@ -208,16 +208,16 @@ module _ (c : Scene) (s : Search) where
   way_weighs d ends row None = omega arith
   way_weighs d ends row (Some i) = omega arith
 
-  module _ (root : ℕ) (ends : List EndPoints) (x : HalfEdge) (w : IsWalkable s.ground c.edges c.roots c.firsts s.source) (ps : List Pending) (old : RowWalk) (h : HeadOf root ends old x ps) (splits : IsSplittable (ends ++ ends_of x ∷ []))
-      (free : is_away (row_at old.rows.items c.masks.width old.follow.row) x.sector ≡ true) where
+  module _ (root : ℕ) (ends : List EndPoints) (x : HalfEdge) (w : IsWalkable s.ground c.edges c.roots c.firsts s.source) (ps : List Pending) (old : RowWalk) (h : HeadOf root ends old x ps) (splits : IsSplittable (ends ++ half_edge_ends x ∷ []))
+      (free : is_away (row_in_words old.rows.items c.masks.width old.follow.row) x.sector ≡ true) where
     abbrev longer : List EndPoints
-    longer = ends ++ ends_of x ∷ []
+    longer = ends ++ half_edge_ends x ∷ []
 
     abbrev behind_row : List ℕ
     behind_row = row_through c.masks h.head
 
-    row_less : IsWithin behind_row h.head.row
-    row_less = left_within h.head.row (mask_at c.masks h.head.edge)
+    row_less : IsRowWithin behind_row h.head.row
+    row_less = left_within h.head.row (mask_of_edge c.masks h.head.edge)
 
     pub away_behind : is_away (row_through c.masks h.head) x.sector ≡ true
     away_behind = away_more behind_row h.head.row x.sector row_less (subst (λ (r : List ℕ). is_away r x.sector ≡ true) (sym h.row_is) free)
@@ -226,7 +226,7 @@ module _ (c : Scene) (s : Search) where
     by_way i o = record {
       edge = o.edge;
       there = o.there;
-      goes_on = subst (λ (r : ℕ). GoesOn c s r longer o.edge) (sym (root_of_more ends (ends_of x) i root)) o.goes_on;
+      goes_on = subst (λ (r : ℕ). GoesOnByRoot c s r longer o.edge) (sym (root_of_more ends (half_edge_ends x) i root)) o.goes_on;
       number_is = o.number_is;
       joins = o.joins;
       front = sym (take_all (length longer) longer (omega arith));
@@ -236,7 +236,7 @@ module _ (c : Scene) (s : Search) where
     }
 
     through_ends : ends_through h.head x ≡ longer
-    through_ends = ap (λ (es : List EndPoints). es ++ ends_of x ∷ []) h.path_is
+    through_ends = ap (λ (es : List EndPoints). es ++ half_edge_ends x ∷ []) h.path_is
 
     abbrev ways : List EndPoints → List Pending
     ways es = ways_behind c.edges c.masks s.source es (row_through c.masks h.head) x
@@ -247,14 +247,14 @@ module _ (c : Scene) (s : Search) where
         (way_holds (IsToCome c s root longer) longer behind_row (way_outside c.edges s.source x.right_way) (λ i e. by_way i (way_on c s w h.head.edge root ends x h.there h.number_is h.goes_on Right i e)))
 
     others_come : AllByRecursion (IsToCome c s root longer) h.rest
-    others_come = all_so (IsToCome c s root ends) (IsToCome c s root longer) h.rest (λ q k. come_longer root ends (ends_of x) q k) h.others
+    others_come = all_so (IsToCome c s root ends) (IsToCome c s root longer) h.rest (λ q k. come_longer root ends (half_edge_ends x) q k) h.others
 
     pub all_come : AllByRecursion (IsToCome c s root longer) (ways_through c.edges c.masks s.source h.head x ++ h.rest)
     all_come = all_join (IsToCome c s root longer) (ways (ends_through h.head x)) h.rest (subst (λ (es : List EndPoints). AllByRecursion (IsToCome c s root longer) (ways es)) (sym through_ends) ways_come) others_come
 
     -- what is deeper has a row that has no more than the present one
     abbrev LessBehind : Pending → Type 0
-    LessBehind q = length ends < length q.path → IsWithin q.row h.head.row
+    LessBehind q = length ends < length q.path → IsRowWithin q.row h.head.row
 
     ways_less : AllByRecursion LessBehind (ways (ends_through h.head x))
     ways_less = all_join LessBehind (pending_way (ends_through h.head x) behind_row (way_asked c.edges c.masks s.source behind_row x.left_way)) (pending_way (ends_through h.head x) behind_row (way_asked c.edges c.masks s.source behind_row x.right_way))
@@ -277,7 +277,7 @@ module _ (c : Scene) (s : Search) where
         let b : weight d us ≡ weight d l + weight d r = weight_join d l r in
         let e : weight d l ≤ weight_at d (length (ends_through h.head x)) = way_weighs d (ends_through h.head x) behind_row (way_asked c.edges c.masks s.source behind_row x.left_way) in
         let f : weight d r ≤ weight_at d (length (ends_through h.head x)) = way_weighs d (ends_through h.head x) behind_row (way_asked c.edges c.masks s.source behind_row x.right_way) in
-        let g : length (ends_through h.head x) ≡ length ends + 1 = ap (λ (es : List EndPoints). length es) through_ends ∙ length-append ends (ends_of x ∷ []) in
+        let g : length (ends_through h.head x) ≡ length ends + 1 = ap (λ (es : List EndPoints). length es) through_ends ∙ length-append ends (half_edge_ends x ∷ []) in
         let k : weight_at d (length (ends_through h.head x)) ≡ weight_at d (length ends + 1) = ap (weight_at d) g in
         let m : weight_at d (length ends + 1) + weight_at d (length ends + 1) < weight_at d (length ends) = ways_weigh_less d (length ends) in_depth in
         let n : weight d ps ≡ weight_at d (length ends) + weight d h.rest = ap (weight d) h.all ∙ ap (λ (es : List EndPoints). weight_at d (length es) + weight d h.rest) h.path_is in
@@ -296,10 +296,10 @@ module _ (c : Scene) (s : Search) where
   unfound_present root ends w found n k g e none =
       let a = asks_first c.masks g.first c.roots w g.asked k g.at e in
       let h : AllByRecursion (IsToCome c s root ends) (present c.masks w k ∷ a.rest) = subst (AllByRecursion (IsToCome c s root ends)) a.all g.each in
-      subst (IsWithin (row_at w.rows.items c.masks.width w.follow.row)) (sym (g.at.base ∙ g.whole none)) h.0.within
+      subst (IsRowWithin (row_in_words w.rows.items c.masks.width w.follow.row)) (sym (g.at.base ∙ g.whole none)) h.0.within
 
-  pub opened : (root : ℕ) (ends : List EndPoints) (old new : RowWalk) (found : List Reached) (x : HalfEdge) (n : ℕ) → (t : IsTried c s root ends old found x (n + 1)) → IsSplittable (ends ++ ends_of x ∷ []) → is_away (row_at old.rows.items c.masks.width old.follow.row) x.sector ≡ true → new.source ≡ old.source
-      → StandsAt c.masks t.going.first c.roots new (ways_through c.edges c.masks s.source (head_of root ends old found x (n + 1) t).head x ++ (head_of root ends old found x (n + 1) t).rest) → IsAfter c s root (ends ++ ends_of x ∷ []) new found n (length ends)
+  pub opened : (root : ℕ) (ends : List EndPoints) (old new : RowWalk) (found : List Reached) (x : HalfEdge) (n : ℕ) → (t : IsTried c s root ends old found x (n + 1)) → IsSplittable (ends ++ half_edge_ends x ∷ []) → is_away (row_in_words old.rows.items c.masks.width old.follow.row) x.sector ≡ true → new.source ≡ old.source
+      → StandsAt c.masks t.going.first c.roots new (ways_through c.edges c.masks s.source (head_of root ends old found x (n + 1) t).head x ++ (head_of root ends old found x (n + 1) t).rest) → IsAfter c s root (ends ++ half_edge_ends x ∷ []) new found n (length ends)
   opened root ends old new found x n t splits free same at = record {
     going = record {
       walkable = t.going.walkable;
@@ -317,11 +317,11 @@ module _ (c : Scene) (s : Search) where
     };
     deeper = λ k e deep.
         let a = asks_first c.masks t.going.first c.roots new next k at e in
-        let q : AllByRecursion (λ (r : Pending). length ends < length r.path → IsWithin r.row h.head.row) (present c.masks new k ∷ a.rest) = subst (AllByRecursion (λ (r : Pending). length ends < length r.path → IsWithin r.row h.head.row)) a.all (all_less root ends x t.going.walkable t.going.asked old h splits free) in
+        let q : AllByRecursion (λ (r : Pending). length ends < length r.path → IsRowWithin r.row h.head.row) (present c.masks new k ∷ a.rest) = subst (AllByRecursion (λ (r : Pending). length ends < length r.path → IsRowWithin r.row h.head.row)) a.all (all_less root ends x t.going.walkable t.going.asked old h splits free) in
         let long : length (path_ends (take new.follow.depth new.path.items)) ≡ new.follow.depth = a.long in
-        let less : IsWithin (row_at new.rows.items c.masks.width new.follow.row) h.head.row = q.0 (omega (arith, long, deep)) in
-        within_through (row_at new.rows.items c.masks.width new.follow.row) h.head.row (row_at new.rows.items c.masks.width 0) less
-        (subst (IsWithin h.head.row) (t.going.at.base ∙ sym at.base) (subst (λ (r : List ℕ). IsWithin r (row_at old.rows.items c.masks.width 0)) (sym h.row_is) t.present));
+        let less : IsRowWithin (row_in_words new.rows.items c.masks.width new.follow.row) h.head.row = q.0 (omega (arith, long, deep)) in
+        within_through (row_in_words new.rows.items c.masks.width new.follow.row) h.head.row (row_in_words new.rows.items c.masks.width 0) less
+        (subst (IsRowWithin h.head.row) (t.going.at.base ∙ sym at.base) (subst (λ (r : List ℕ). IsRowWithin r (row_in_words old.rows.items c.masks.width 0)) (sym h.row_is) t.present));
   }
     where
       h : HeadOf root ends old x t.going.asked
@@ -370,7 +370,7 @@ module _ (c : Scene) (s : Search) where
 
   -- rows without what is out of the first one
   pub going_thinned : (root : ℕ) (ends : List EndPoints) (old new : RowWalk) (found : List Reached) (n : ℕ) → (g : IsGoing c s root ends old found n) → new.source ≡ old.source → found ≢ []
-      → (later : List ℕ) × (qs : List Pending) × StandsAt c.masks later c.roots new qs × AreThinned g.asked qs × IsWithin later g.first → IsGoing c s root ends new found n
+      → (later : List ℕ) × (qs : List Pending) × StandsAt c.masks later c.roots new qs × AreThinned g.asked qs × IsRowWithin later g.first → IsGoing c s root ends new found n
   going_thinned root ends old new found n g same some (later, qs, at, thinned, less) = record {
     walkable = g.walkable;
     source_is = same ∙ g.source_is;
@@ -435,17 +435,17 @@ module _ (c : Scene) (s : Search) where
           let k : length cut ≡ min w.follow.depth (length ends) = ap (λ (es : List EndPoints). length es) cut_is ∙ length-take w.follow.depth ends in
           omega (arith, l, m, k)
 
-      begun : (es : List EndPoints) (number later : ℕ) → ((w.follow.depth ≡ 0) × (later ≡ number)) ⊎ ((w.follow.depth ≢ 0) × (later ≡ root)) → w.follow.depth ≡ length es → root_of es number later ≡ later
+      begun : (es : List EndPoints) (number later : ℕ) → ((w.follow.depth ≡ 0) × (later ≡ number)) ⊎ ((w.follow.depth ≢ 0) × (later ≡ root)) → w.follow.depth ≡ length es → root_of_path es number later ≡ later
       begun [] number later (inl h) d = sym h.1
       begun [] number later (inr h) d = absurd (h.0 d)
       begun (f ∷ es) number later h d = refl
 
   -- ---- the limit is what the state says
 
-  pub remaining_less : (root : ℕ) (ends : List EndPoints) (w : RowWalk) (found : List Reached) (n : ℕ) → IsGoing c s root ends w found n → remaining c w < n
-  remaining_less root ends w found n g = let e : remaining c w ≡ weight (most c) g.asked = remaining_is c g.first w g.asked g.at in let l : weight (most c) g.asked < n = g.fewer in omega (arith, e, l)
+  pub remaining_less : (root : ℕ) (ends : List EndPoints) (w : RowWalk) (found : List Reached) (n : ℕ) → IsGoing c s root ends w found n → row_walk_left c w < n
+  remaining_less root ends w found n g = let e : row_walk_left c w ≡ weight (most c) g.asked = remaining_is c g.first w g.asked g.at in let l : weight (most c) g.asked < n = g.fewer in omega (arith, e, l)
 
-  pub with_limit : (root : ℕ) (ends : List EndPoints) (w : RowWalk) (found : List Reached) (n : ℕ) → IsGoing c s root ends w found n → IsGoing c s root ends w found (remaining c w + 1)
+  pub with_limit : (root : ℕ) (ends : List EndPoints) (w : RowWalk) (found : List Reached) (n : ℕ) → IsGoing c s root ends w found n → IsGoing c s root ends w found (row_walk_left c w + 1)
   with_limit root ends w found n g = record {
     walkable = g.walkable;
     source_is = g.source_is;
@@ -453,7 +453,7 @@ module _ (c : Scene) (s : Search) where
     asked = g.asked;
     at = g.at;
     each = g.each;
-    fewer = let e : remaining c w ≡ weight (most c) g.asked = remaining_is c g.first w g.asked g.at in omega (arith, e);
+    fewer = let e : row_walk_left c w ≡ weight (most c) g.asked = remaining_is c g.first w g.asked g.at in omega (arith, e);
     kept = g.kept;
     gone = g.gone;
     whole = g.whole;
@@ -464,8 +464,8 @@ module _ (c : Scene) (s : Search) where
   -- ---- answers
 
   -- the judge's walk stands behind it, whose nodes that one blocks too
-  pub blocked_walked : (root : ℕ) (ends : List EndPoints) (w new : RowWalk) (found : List Reached) (x : HalfEdge) (n : ℕ) (e : Evidence) (t : IsTried c s root ends w found x n) → IsBarredBy (ends ++ ends_of x ∷ []) e → new.source ≡ w.source
-      → ((first : List ℕ) (p : Pending) (rest : List Pending) → StandsAt c.masks first c.roots w (p ∷ rest) → StandsAt c.masks first c.roots new rest) → (row : List ℕ) (firsts : List (Option ℕ)) (tree : Tree) → IsWalked c.edges c.masks row c.roots firsts tree w → IsWalked c.edges c.masks row c.roots firsts (with_node (Blocked e) tree) new
+  pub blocked_walked : (root : ℕ) (ends : List EndPoints) (w new : RowWalk) (found : List Reached) (x : HalfEdge) (n : ℕ) (e : Evidence) (t : IsTried c s root ends w found x n) → IsBarredBy (ends ++ half_edge_ends x ∷ []) e → new.source ≡ w.source
+      → ((first : List ℕ) (p : Pending) (rest : List Pending) → StandsAt c.masks first c.roots w (p ∷ rest) → StandsAt c.masks first c.roots new rest) → (row : List ℕ) (firsts : List (Option ℕ)) (tree : Tree) → IsTreeWalkedInRow c.edges c.masks row c.roots firsts tree w → IsTreeWalkedInRow c.edges c.masks row c.roots firsts (with_node (Blocked e) tree) new
   unfolding head_of
   blocked_walked root ends w new found x n e t bars same moves row firsts tree walked = record {
     source_is = same ∙ walked.source_is;
@@ -475,8 +475,8 @@ module _ (c : Scene) (s : Search) where
       path_is : path_ends (take w.follow.depth w.path.items) ≡ ends
       path_is = (head_of root ends w found x n t).path_is
 
-      blocks : Blocks (path_ends (take w.follow.depth w.path.items) ++ ends_of x ∷ []) e
-      blocks = subst (λ (es : List EndPoints). Blocks (es ++ ends_of x ∷ []) e) (sym path_is) bars.blocks
+      blocks : BlocksEnds (path_ends (take w.follow.depth w.path.items) ++ half_edge_ends x ∷ []) e
+      blocks = subst (λ (es : List EndPoints). BlocksEnds (es ++ half_edge_ends x ∷ []) e) (sym path_is) bars.blocks
 
       go : (es : List ℕ) → (ps : List Pending) × AreAnswered c.edges c.masks tree.source (pending_roots c.masks row es) tree.nodes ps × StandsAt c.masks row c.roots w ps
           → (ps : List Pending) × AreAnswered c.edges c.masks tree.source (pending_roots c.masks row es) (tree.nodes ++ Blocked e ∷ []) ps × StandsAt c.masks row c.roots new ps
@@ -484,8 +484,8 @@ module _ (c : Scene) (s : Search) where
           let a = asks_first c.masks row c.roots w ps t.number at t.is_asked in
           (a.rest, answered_more c.edges c.masks tree.source tree.nodes (Blocked e) (pending_roots c.masks row es) ps a.rest answered (present c.masks w t.number, a.rest, x, a.all, t.there, blocks, refl), moves row (present c.masks w t.number) a.rest (subst (StandsAt c.masks row c.roots w) a.all at))
 
-  pub open_right : (root : ℕ) (ends : List EndPoints) (w : RowWalk) (found : List Reached) (x : HalfEdge) (n : ℕ) (t : IsTried c s root ends w found x n) → is_away (row_at w.rows.items c.masks.width w.follow.row) x.sector ≡ true
-      → Answers c.edges c.masks w.source t.going.asked Open (ways_through c.edges c.masks s.source (head_of root ends w found x n t).head x ++ (head_of root ends w found x n t).rest)
+  pub open_right : (root : ℕ) (ends : List EndPoints) (w : RowWalk) (found : List Reached) (x : HalfEdge) (n : ℕ) (t : IsTried c s root ends w found x n) → is_away (row_in_words w.rows.items c.masks.width w.follow.row) x.sector ≡ true
+      → AnswersFirstInRow c.edges c.masks w.source t.going.asked Open (ways_through c.edges c.masks s.source (head_of root ends w found x n t).head x ++ (head_of root ends w found x n t).rest)
   open_right root ends w found x n t free =
       let h = head_of root ends w found x n t in (
         h.head,
@@ -493,7 +493,7 @@ module _ (c : Scene) (s : Search) where
         x,
         h.all,
         h.there,
-        away_more (row_through c.masks h.head) h.head.row x.sector (left_within h.head.row (mask_at c.masks h.head.edge)) (subst (λ (r : List ℕ). is_away r x.sector ≡ true) (sym h.row_is) free),
+        away_more (row_through c.masks h.head) h.head.row x.sector (left_within h.head.row (mask_of_edge c.masks h.head.edge)) (subst (λ (r : List ℕ). is_away r x.sector ≡ true) (sym h.row_is) free),
         ap (λ (a : ℕ). ways_through c.edges c.masks a h.head x ++ h.rest) (sym t.going.source_is),
       )
 
@@ -502,8 +502,8 @@ module _ (c : Scene) (s : Search) where
   asked_there root ends w found x n number t e = subst (λ (i : ℕ). slice_get c.edges i ≡ Some x) (some_is_same t.number number (sym t.is_asked ∙ e)) t.there
 
   -- what the row before a half-edge hasn't, the row behind it hasn't
-  pub away_asked : (w : RowWalk) (x : HalfEdge) (number : ℕ) → is_away (row_at w.rows.items c.masks.width w.follow.row) x.sector ≡ true → is_away (row_behind c.masks w.rows.items w.follow.row number) x.sector ≡ true
-  away_asked w x number free = away_more (row_behind c.masks w.rows.items w.follow.row number) (row_at w.rows.items c.masks.width w.follow.row) x.sector (left_within (row_at w.rows.items c.masks.width w.follow.row) (mask_at c.masks number)) free
+  pub away_asked : (w : RowWalk) (x : HalfEdge) (number : ℕ) → is_away (row_in_words w.rows.items c.masks.width w.follow.row) x.sector ≡ true → is_away (row_behind c.masks w.rows.items w.follow.row number) x.sector ≡ true
+  away_asked w x number free = away_more (row_behind c.masks w.rows.items w.follow.row number) (row_in_words w.rows.items c.masks.width w.follow.row) x.sector (left_within (row_in_words w.rows.items c.masks.width w.follow.row) (mask_of_edge c.masks number)) free
 
   pub after_moved : (root later : ℕ) (ends other : List EndPoints) (w : RowWalk) (found more : List Reached) (n d : ℕ) → later ≡ root → other ≡ ends → more ≡ found → IsAfter c s root ends w found n d → IsAfter c s later other w more n d
   after_moved root later ends other w found more n d e f g h = rw (e, f, g) h

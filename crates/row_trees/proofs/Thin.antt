@@ -6,10 +6,10 @@ use Rattle.std.proofs.lemmas.Nat.Bits.{bit_at-lt, bit_at-zero, bit_at_and, bit_a
 use Rattle.std.proofs.lemmas.List.{length-take, get_or-set_same, get_or-set_other}
 use Rattle.math_base.proofs.Numbers.{same_or_not, below_or_not, below_or_last, tells_same, tells_other, is_told_same}
 use Rattle.math_base.proofs.Bools.{false_of_not, not_both_values}
-use Rattle.gate_floods.specs.RowJudge.Words.{is_in, is_away, row_at, both_words}
-use Rattle.gate_floods.specs.RowJudge.Asked.{left_of, leaves}
+use Rattle.gate_floods.specs.RowJudge.Words.{is_in, is_away, row_in_words, both_words}
+use Rattle.gate_floods.specs.RowJudge.Asked.{row_left, leaves}
 use Rattle.gate_floods.proofs.RowJudge.Bits.{found_bit, bit_found, in_both, in_each, beyond, word_of_row}
-use Rattle.row_trees.specs.Thinner.{IsPartOf, IsWithin, AreThinner}
+use Rattle.row_trees.specs.Thinner.{IsPartOf, IsRowWithin, AreThinner}
 
 -- ---- one word
 
@@ -46,13 +46,13 @@ pub bit_in : (xs : List ℕ) (c : ℕ) → bit_at (slice_index xs (c / 64)) (c %
 bit_in xs c h = tells_same (bit_at (slice_index xs (c / 64)) (c % 64)) 1 h
 
 -- what a row has is in one of its words
-pub in_width : (xs : List ℕ) (w at c : ℕ) → is_in (row_at xs w at) c ≡ true → c / 64 < w
+pub in_width : (xs : List ℕ) (w at c : ℕ) → is_in (row_in_words xs w at) c ≡ true → c / 64 < w
 in_width xs w at c h = elim (below_or_not (c / 64) w) as (λ _. c / 64 < w) [
   | inl l ↦ l
   | inr l ↦ (
-      let short : length (row_at xs w at) ≡ min w (length (drop at xs)) = length-take w (drop at xs) in
-      let none : slice_index (row_at xs w at) (c / 64) ≡ 0 = beyond (row_at xs w at) (c / 64) (omega (arith, l, short)) in
-      absurd (no (bit_at (slice_index (row_at xs w at) (c / 64)) (c % 64)) (ap (λ (n : ℕ). bit_at n (c % 64)) none ∙ bit_at-zero (c % 64)) (in_bit (row_at xs w at) c h))
+      let short : length (row_in_words xs w at) ≡ min w (length (drop at xs)) = length-take w (drop at xs) in
+      let none : slice_index (row_in_words xs w at) (c / 64) ≡ 0 = beyond (row_in_words xs w at) (c / 64) (omega (arith, l, short)) in
+      absurd (no (bit_at (slice_index (row_in_words xs w at) (c / 64)) (c % 64)) (ap (λ (n : ℕ). bit_at n (c % 64)) none ∙ bit_at-zero (c % 64)) (in_bit (row_in_words xs w at) c h))
       )
 ]
   where
@@ -60,22 +60,22 @@ in_width xs w at c h = elim (below_or_not (c / 64) w) as (λ _. c / 64 < w) [
     no b e f = omega (arith, e, f)
 
 -- a row whose words are parts of the words of another row is within it
-pub row_within : (xs ys : List ℕ) (w at to : ℕ) → ((k : ℕ) → k < w → IsPartOf (slice_index xs (at + k)) (slice_index ys (to + k))) → IsWithin (row_at xs w at) (row_at ys w to)
+pub row_within : (xs ys : List ℕ) (w at to : ℕ) → ((k : ℕ) → k < w → IsPartOf (slice_index xs (at + k)) (slice_index ys (to + k))) → IsRowWithin (row_in_words xs w at) (row_in_words ys w to)
 row_within xs ys w at to parts = λ c h.
     let l : c / 64 < w = in_width xs w at c h in
-    let b = sym (ap (λ (n : ℕ). bit_at n (c % 64)) (word_of_row xs w at (c / 64) l)) ∙ in_bit (row_at xs w at) c h in
-    bit_in (row_at ys w to) c (ap (λ (n : ℕ). bit_at n (c % 64)) (word_of_row ys w to (c / 64) l) ∙ parts (c / 64) l (c % 64) b)
+    let b = sym (ap (λ (n : ℕ). bit_at n (c % 64)) (word_of_row xs w at (c / 64) l)) ∙ in_bit (row_in_words xs w at) c h in
+    bit_in (row_in_words ys w to) c (ap (λ (n : ℕ). bit_at n (c % 64)) (word_of_row ys w to (c / 64) l) ∙ parts (c / 64) l (c % 64) b)
 
-pub thinner_row : (xs ys : List ℕ) → AreThinner xs ys → (w at : ℕ) → IsWithin (row_at ys w at) (row_at xs w at)
+pub thinner_row : (xs ys : List ℕ) → AreThinner xs ys → (w at : ℕ) → IsRowWithin (row_in_words ys w at) (row_in_words xs w at)
 thinner_row xs ys t w at = row_within ys xs w at at (λ k l. t.words (at + k))
 
 -- ---- what is left behind a mask
 
-pub left_within : (row : List ℕ) (o : Option (List ℕ)) → IsWithin (left_of row o) row
+pub left_within : (row : List ℕ) (o : Option (List ℕ)) → IsRowWithin (row_left row o) row
 left_within row None = λ c h. h
 left_within row (Some mask) = λ c h. bit_in row c (in_each row mask c (in_bit (both_words row mask) c h)).0
 
-pub leaves_more : (xs ys : List ℕ) (o : Option (List ℕ)) → IsWithin xs ys → leaves xs o ≡ true → leaves ys o ≡ true
+pub leaves_more : (xs ys : List ℕ) (o : Option (List ℕ)) → IsRowWithin xs ys → leaves xs o ≡ true → leaves ys o ≡ true
 leaves_more xs ys None in' h = refl
 leaves_more xs ys (Some mask) in' h =
     let f = found_bit (both_words xs mask) h in
@@ -84,21 +84,21 @@ leaves_more xs ys (Some mask) in' h =
 
 -- ---- sectors that a row doesn't have
 
-pub out_of : (xs ys : List ℕ) (c : ℕ) → IsWithin xs ys → is_in ys c ≡ false → is_in xs c ≡ false
+pub out_of : (xs ys : List ℕ) (c : ℕ) → IsRowWithin xs ys → is_in ys c ≡ false → is_in xs c ≡ false
 out_of xs ys c in' h = by (is_in xs c) refl
   where
     by : (b : Bool) → is_in xs c ≡ b → is_in xs c ≡ false
     by false e = e
     by true e = absurd (not_both_values (is_in ys c) (in' c e) h)
 
-pub away_more : (xs ys : List ℕ) (o : Option ℕ) → IsWithin xs ys → is_away ys o ≡ true → is_away xs o ≡ true
+pub away_more : (xs ys : List ℕ) (o : Option ℕ) → IsRowWithin xs ys → is_away ys o ≡ true → is_away xs o ≡ true
 away_more xs ys None in' h = refl
 away_more xs ys (Some c) in' h = ap not (out_of xs ys c in' (false_of_not (is_in ys c) h))
 
 pub away_of : (xs : List ℕ) (c : ℕ) → is_in xs c ≡ false → is_away xs (Some c) ≡ true
 away_of xs c h = ap not h
 
-pub within_through : (xs ys zs : List ℕ) → IsWithin xs ys → IsWithin ys zs → IsWithin xs zs
+pub within_through : (xs ys zs : List ℕ) → IsRowWithin xs ys → IsRowWithin ys zs → IsRowWithin xs zs
 within_through xs ys zs f g = λ c h. g c (f c h)
 
 -- ---- a bit taken out
@@ -152,5 +152,5 @@ one_met old xs at count l h = record {
       | inr n ↦ (λ b g. ap (λ (x : ℕ). bit_at x b) (other count n) ∙ and_right (slice_index xs (at + count)) (slice_index xs count) b (sym (ap (λ (x : ℕ). bit_at x b) here) ∙ g))
     ]
 
-pub met_row : (old new : List ℕ) (at count width : ℕ) → width ≤ count → HasMet old new at count → IsWithin (row_at new width at) (row_at new width 0)
+pub met_row : (old new : List ℕ) (at count width : ℕ) → width ≤ count → HasMet old new at count → IsRowWithin (row_in_words new width at) (row_in_words new width 0)
 met_row old new at count width l h = row_within new new width at 0 (λ k low. subst (λ (n : ℕ). IsPartOf (slice_index new (at + k)) (slice_index new n)) (omega arith) (h.done k (omega (arith, l, low))))

@@ -10,11 +10,11 @@ use Rattle.gate_floods.specs.RowJudge.Masks.{MaskRows}
 use Rattle.gate_floods.specs.declared.row_judge.follow.Wait.{Wait}
 use Rattle.gate_floods.specs.declared.row_judge.follow.RowFollow.{RowFollow}
 use Rattle.gate_floods.specs.declared.row_judge.walk.RowWalk.{RowWalk}
-use Rattle.gate_floods.specs.RowJudge.Words.{row_at}
-use Rattle.gate_floods.specs.RowJudge.Asked.{Pending, pending_way, pending_roots, with_rest, leaves, mask_at}
-use Rattle.gate_floods.specs.RowJudge.Path.{waiting_way, AreWaiting, IsAt}
+use Rattle.gate_floods.specs.RowJudge.Words.{row_in_words}
+use Rattle.gate_floods.specs.RowJudge.Asked.{Pending, pending_way, pending_roots, with_rest, leaves, mask_of_edge}
+use Rattle.gate_floods.specs.RowJudge.Path.{waiting_way, AreWaiting, IsRowWalkAt}
 use Rattle.gate_floods.specs.RowJudge.Judged.{StandsAt}
-use Rattle.row_trees.specs.Thinner.{IsWithin, AreThinner, SameButRows, IsThinned, AreThinned}
+use Rattle.row_trees.specs.Thinner.{IsRowWithin, AreThinner, SameButRows, IsThinned, AreThinned}
 use Rattle.row_trees.specs.Left.{weight, weight_at}
 use Rattle.row_trees.proofs.Thin.{thinner_row, leaves_more}
 
@@ -69,25 +69,25 @@ weight_thinned d (p ∷ ps) qs (inr m) = let l : weight d qs ≤ weight d ps = w
 
 -- ---- the roots, and the ways that wait
 
-rest_if : (ms : MaskRows) (row : List ℕ) (e : ℕ) (b : Bool) → leaves row (mask_at ms e) ≡ b → with_rest ms row e ≡ (let o : Option ℕ = if b then Some e else None in o)
+rest_if : (ms : MaskRows) (row : List ℕ) (e : ℕ) (b : Bool) → leaves row (mask_of_edge ms e) ≡ b → with_rest ms row e ≡ (let o : Option ℕ = if b then Some e else None in o)
 rest_if ms row e b h = ap (λ (c : Bool). let o : Option ℕ = if c then Some e else None in o) h
 
-one_root : (ms : MaskRows) (first later : List ℕ) → IsWithin later first → (e : ℕ) (us vs : List Pending) → AreThinned us vs → AreThinned (pending_way [] first (with_rest ms first e) ++ us) (pending_way [] later (with_rest ms later e) ++ vs)
-one_root ms first later in' e us vs m = by (leaves first (mask_at ms e)) (leaves later (mask_at ms e)) refl refl
+one_root : (ms : MaskRows) (first later : List ℕ) → IsRowWithin later first → (e : ℕ) (us vs : List Pending) → AreThinned us vs → AreThinned (pending_way [] first (with_rest ms first e) ++ us) (pending_way [] later (with_rest ms later e) ++ vs)
+one_root ms first later in' e us vs m = by (leaves first (mask_of_edge ms e)) (leaves later (mask_of_edge ms e)) refl refl
   where
-    put : (b c : Bool) → leaves first (mask_at ms e) ≡ b → leaves later (mask_at ms e) ≡ c
+    put : (b c : Bool) → leaves first (mask_of_edge ms e) ≡ b → leaves later (mask_of_edge ms e) ≡ c
         → AreThinned (pending_way [] first (let o : Option ℕ = if b then Some e else None in o) ++ us) (pending_way [] later (let o : Option ℕ = if c then Some e else None in o) ++ vs)
         → AreThinned (pending_way [] first (with_rest ms first e) ++ us) (pending_way [] later (with_rest ms later e) ++ vs)
     put b c f g h = subst (λ (o : Option ℕ). AreThinned (pending_way [] first o ++ us) (pending_way [] later (with_rest ms later e) ++ vs)) (sym (rest_if ms first e b f))
         (subst (λ (o : Option ℕ). AreThinned (pending_way [] first (let o : Option ℕ = if b then Some e else None in o) ++ us) (pending_way [] later o ++ vs)) (sym (rest_if ms later e c g)) h)
 
-    by : (b c : Bool) → leaves first (mask_at ms e) ≡ b → leaves later (mask_at ms e) ≡ c → AreThinned (pending_way [] first (with_rest ms first e) ++ us) (pending_way [] later (with_rest ms later e) ++ vs)
+    by : (b c : Bool) → leaves first (mask_of_edge ms e) ≡ b → leaves later (mask_of_edge ms e) ≡ c → AreThinned (pending_way [] first (with_rest ms first e) ++ us) (pending_way [] later (with_rest ms later e) ++ vs)
     by true true f g = put true true f g (inl (record { path = []; row = later; edge = e }, vs, refl, record { path = refl; edge = refl; row = in' }, m))
     by true false f g = put true false f g (inr m)
-    by false true f g = absurd (not_both_values (leaves first (mask_at ms e)) (leaves_more later first (mask_at ms e) in' g) f)
+    by false true f g = absurd (not_both_values (leaves first (mask_of_edge ms e)) (leaves_more later first (mask_of_edge ms e) in' g) f)
     by false false f g = put false false f g m
 
-roots_thinned : (ms : MaskRows) (first later : List ℕ) → IsWithin later first → (es : List ℕ) → AreThinned (pending_roots ms first es) (pending_roots ms later es)
+roots_thinned : (ms : MaskRows) (first later : List ℕ) → IsRowWithin later first → (es : List ℕ) → AreThinned (pending_roots ms first es) (pending_roots ms later es)
 roots_thinned ms first later in' [] = refl
 roots_thinned ms first later in' (e ∷ es) = one_root ms first later in' e (pending_roots ms first es) (pending_roots ms later es) (roots_thinned ms first later in' es)
 
@@ -105,20 +105,20 @@ waiting_thinned path rows thin t w waits d r (p ∷ ps) (front, x, split, low, l
         record {
           path = sym (ap (λ (u : Pending). u.path) this);
           edge = sym (ap (λ (u : Pending). u.edge) this);
-          row = subst (λ (u : Pending). IsWithin q.row u.row) (sym this) (thinner_row rows thin t w x.row);
+          row = subst (λ (u : Pending). IsRowWithin q.row u.row) (sym this) (thinner_row rows thin t w x.row);
         },
         m.2,
       ),
     )
 
-asked_thinned : (ends : List EndPoints) (row thin : List ℕ) → IsWithin thin row → (o : Option ℕ) → AreThinned (pending_way ends row o) (pending_way ends thin o)
+asked_thinned : (ends : List EndPoints) (row thin : List ℕ) → IsRowWithin thin row → (o : Option ℕ) → AreThinned (pending_way ends row o) (pending_way ends thin o)
 asked_thinned ends row thin in' None = refl
 asked_thinned ends row thin in' (Some i) = inl (record { path = ends; row = thin; edge = i }, [], refl, record { path = refl; edge = refl; row = in' }, refl)
 
 -- ---- the walk
 
-at_thinned : (ms : MaskRows) (first : List ℕ) (roots : List Root) (path : List Frame) (rows thin : List ℕ) (waits : List Wait) (f : RowFollow) (ps : List Pending) → AreThinner rows thin → IsAt ms first roots path rows waits f ps
-    → (qs : List Pending) × IsAt ms (row_at thin ms.width 0) roots path thin waits f qs × AreThinned ps qs
+at_thinned : (ms : MaskRows) (first : List ℕ) (roots : List Root) (path : List Frame) (rows thin : List ℕ) (waits : List Wait) (f : RowFollow) (ps : List Pending) → AreThinner rows thin → IsRowWalkAt ms first roots path rows waits f ps
+    → (qs : List Pending) × IsRowWalkAt ms (row_in_words thin ms.width 0) roots path thin waits f qs × AreThinned ps qs
 at_thinned ms first roots path rows thin waits f ps t a = (
   qs,
   record {
@@ -136,28 +136,28 @@ at_thinned ms first roots path rows thin waits f ps t a = (
 )
   where
     later : List ℕ
-    later = row_at thin ms.width 0
+    later = row_in_words thin ms.width 0
 
     m : (qs : List Pending) × AreWaiting path thin ms.width waits f.depth f.row qs × AreThinned a.ways qs
     m = waiting_thinned path rows thin t ms.width waits f.depth f.row a.ways a.waiting
 
     qs : List Pending
-    qs = pending_way (path_ends (take f.depth path)) (row_at thin ms.width f.row) f.asked ++ (m.0 ++ pending_roots ms later a.es)
+    qs = pending_way (path_ends (take f.depth path)) (row_in_words thin ms.width f.row) f.asked ++ (m.0 ++ pending_roots ms later a.es)
 
     thinned : AreThinned ps qs
     thinned = subst (λ (us : List Pending). AreThinned us qs) (sym a.all)
-        (thinned_join (pending_way (path_ends (take f.depth path)) (row_at rows ms.width f.row) f.asked) (pending_way (path_ends (take f.depth path)) (row_at thin ms.width f.row) f.asked) (a.ways ++ pending_roots ms first a.es) (m.0 ++ pending_roots ms later a.es)
-        (asked_thinned (path_ends (take f.depth path)) (row_at rows ms.width f.row) (row_at thin ms.width f.row) (thinner_row rows thin t ms.width f.row) f.asked)
-        (thinned_join a.ways m.0 (pending_roots ms first a.es) (pending_roots ms later a.es) m.2 (roots_thinned ms first later (subst (IsWithin later) a.base (thinner_row rows thin t ms.width 0)) a.es)))
+        (thinned_join (pending_way (path_ends (take f.depth path)) (row_in_words rows ms.width f.row) f.asked) (pending_way (path_ends (take f.depth path)) (row_in_words thin ms.width f.row) f.asked) (a.ways ++ pending_roots ms first a.es) (m.0 ++ pending_roots ms later a.es)
+        (asked_thinned (path_ends (take f.depth path)) (row_in_words rows ms.width f.row) (row_in_words thin ms.width f.row) (thinner_row rows thin t ms.width f.row) f.asked)
+        (thinned_join a.ways m.0 (pending_roots ms first a.es) (pending_roots ms later a.es) m.2 (roots_thinned ms first later (subst (IsRowWithin later) a.base (thinner_row rows thin t ms.width 0)) a.es)))
 
 -- the walk with thinner rows
 pub stands_thinned : (ms : MaskRows) (first : List ℕ) (roots : List Root) (old new : RowWalk) (ps : List Pending) → SameButRows old new → AreThinner old.rows.items new.rows.items → StandsAt ms first roots old ps
-    → (later : List ℕ) × (qs : List Pending) × StandsAt ms later roots new qs × AreThinned ps qs × IsWithin later first
+    → (later : List ℕ) × (qs : List Pending) × StandsAt ms later roots new qs × AreThinned ps qs × IsRowWithin later first
 stands_thinned ms first roots old new ps same t a =
     let m = at_thinned ms first roots old.path.items old.rows.items new.rows.items old.waits.items old.follow ps t a in (
-      row_at new.rows.items ms.width 0,
+      row_in_words new.rows.items ms.width 0,
       m.0,
       rw (same.path, same.waits, same.follow) m.1,
       m.2,
-      subst (IsWithin (row_at new.rows.items ms.width 0)) a.base (thinner_row old.rows.items new.rows.items t ms.width 0),
+      subst (IsRowWithin (row_in_words new.rows.items ms.width 0)) a.base (thinner_row old.rows.items new.rows.items t ms.width 0),
     )

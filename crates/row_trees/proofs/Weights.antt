@@ -5,20 +5,20 @@ use Rattle.std.proofs.Math.Nat.{pow-suc}
 use Rattle.sight_names.specs.Splitting.{EndPoints}
 use Rattle.cert_checker.specs.declared.tree_judge.roots.Root.{Root}
 use Rattle.cert_checker.specs.declared.tree_judge.trees.Frame.{Frame}
-use Rattle.cert_checker.specs.TreeJudge.Path.{portal_ends, path_ends, IsChain}
+use Rattle.cert_checker.specs.TreeJudge.Path.{portal_ends, path_ends, IsRootChain}
 use Rattle.gate_floods.specs.declared.row_judge.follow.Wait.{Wait}
 use Rattle.gate_floods.specs.declared.row_judge.walk.RowWalk.{RowWalk}
-use Rattle.gate_floods.specs.RowJudge.Words.{row_at}
+use Rattle.gate_floods.specs.RowJudge.Words.{row_in_words}
 use Rattle.gate_floods.specs.RowJudge.Asked.{Pending, pending_way, pending_roots}
 use Rattle.gate_floods.specs.RowJudge.Path.{AreWaiting}
 use Rattle.gate_floods.specs.RowJudge.Judged.{StandsAt}
 use Rattle.gate_floods.proofs.RowJudge.Roots.{chain_short}
 use Rattle.row_trees.specs.Walkable.{Scene}
-use Rattle.row_trees.specs.Left.{most, weight, weight_at, weight_of_asked, weight_of_waits, root_then, root_at_then, chain_of, remaining}
+use Rattle.row_trees.specs.Left.{most, weight, weight_at, weight_of_asked, weight_of_waits, root_then, root_at_then, chain_of, row_walk_left}
 
 -- ---- a chain of roots, by its places
 
-pub chain_is : (roots : List Root) (n : ℕ) (o : Option ℕ) (es : List ℕ) → length es ≤ n → IsChain roots o es → chain_of roots n o ≡ es
+pub chain_is : (roots : List Root) (n : ℕ) (o : Option ℕ) (es : List ℕ) → length es ≤ n → IsRootChain roots o es → chain_of roots n o ≡ es
 chain_is roots zero o [] l c = refl
 chain_is roots zero o (e ∷ es) l c = absurd (omega (arith, l))
 chain_is roots (suc n) o [] l c = ap (chain_of roots (suc n)) c
@@ -64,20 +64,20 @@ asked_weighs d ends row depth None e = refl
 asked_weighs d ends row depth (Some i) e = let f : weight_at d (length ends) ≡ weight_at d depth = ap (weight_at d) e in omega (arith, f)
 
 -- what the state says is what is still to be asked
-pub remaining_is : (s : Scene) (first : List ℕ) (w : RowWalk) (ps : List Pending) → StandsAt s.masks first s.roots w ps → remaining s w ≡ weight (most s) ps
+pub remaining_is : (s : Scene) (first : List ℕ) (w : RowWalk) (ps : List Pending) → StandsAt s.masks first s.roots w ps → row_walk_left s w ≡ weight (most s) ps
 remaining_is s first w ps a =
-    let asked : weight d now ≡ weight_of_asked d w.follow.depth w.follow.asked = asked_weighs d (path_ends (take w.follow.depth w.path.items)) (row_at w.rows.items s.masks.width w.follow.row) w.follow.depth w.follow.asked (front_long w.path.items w.follow.depth a.depth_room) in
+    let asked : weight d now ≡ weight_of_asked d w.follow.depth w.follow.asked = asked_weighs d (path_ends (take w.follow.depth w.path.items)) (row_in_words w.rows.items s.masks.width w.follow.row) w.follow.depth w.follow.asked (front_long w.path.items w.follow.depth a.depth_room) in
     let waits : weight_of_waits d w.waits.items ≡ weight d a.ways = waits_weigh d w.path.items w.rows.items s.masks.width w.waits.items w.follow.depth w.follow.row a.ways a.depth_room a.waiting in
     let chain : chain_of s.roots (length s.roots) w.follow.root ≡ a.es = chain_is s.roots (length s.roots) w.follow.root a.es (chain_short s.roots w.follow.root a.es a.chain) a.chain in
-    let rest : weight d (pending_roots s.masks (row_at w.rows.items s.masks.width 0) (chain_of s.roots (length s.roots) w.follow.root)) ≡ weight d later = λ i. weight d (pending_roots s.masks (a.base i) (chain i)) in
+    let rest : weight d (pending_roots s.masks (row_in_words w.rows.items s.masks.width 0) (chain_of s.roots (length s.roots) w.follow.root)) ≡ weight d later = λ i. weight d (pending_roots s.masks (a.base i) (chain i)) in
     let all : weight d ps ≡ weight d now + (weight d a.ways + weight d later) = ap (weight d) a.all ∙ weight_join d now (a.ways ++ later) ∙ ap (λ (n : ℕ). weight d now + n) (weight_join d a.ways later) in
-    sums (weight d now) (weight_of_asked d w.follow.depth w.follow.asked) (weight_of_waits d w.waits.items) (weight d a.ways) (weight d (pending_roots s.masks (row_at w.rows.items s.masks.width 0) (chain_of s.roots (length s.roots) w.follow.root))) (weight d later) (weight d ps) asked waits rest all
+    sums (weight d now) (weight_of_asked d w.follow.depth w.follow.asked) (weight_of_waits d w.waits.items) (weight d a.ways) (weight d (pending_roots s.masks (row_in_words w.rows.items s.masks.width 0) (chain_of s.roots (length s.roots) w.follow.root))) (weight d later) (weight d ps) asked waits rest all
   where
     d : ℕ
     d = most s
 
     now : List Pending
-    now = pending_way (path_ends (take w.follow.depth w.path.items)) (row_at w.rows.items s.masks.width w.follow.row) w.follow.asked
+    now = pending_way (path_ends (take w.follow.depth w.path.items)) (row_in_words w.rows.items s.masks.width w.follow.row) w.follow.asked
 
     later : List Pending
     later = pending_roots s.masks first a.es

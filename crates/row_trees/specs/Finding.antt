@@ -4,7 +4,7 @@ use Rattle.sight_names.specs.declared.names.Side.{Side}
 use Rattle.mesh_shape.specs.declared.half_edges.table.HalfEdge.{HalfEdge}
 use Rattle.gate_floods.specs.Gates.{other_side}
 use Rattle.pair_budget.specs.declared.results.Reached.{Reached}
-use Rattle.gate_floods.specs.RowJudge.Words.{is_in, row_at}
+use Rattle.gate_floods.specs.RowJudge.Words.{is_in, row_in_words}
 
 -- the side by which one leaves who comes in by the half-edge with this number
 abbrev pub side_left : List HalfEdge → Option ℕ → Option Side
@@ -12,7 +12,7 @@ side_left xs number = option_and_then (λ i. option_and_then (λ (x : HalfEdge).
 
 -- the sector, if the row at this place has it
 abbrev pub had_in : List ℕ → ℕ → ℕ → Option ℕ → Option ℕ
-had_in rows width at sector = option_and_then (λ c. let o : Option ℕ = if is_in (row_at rows width at) c then Some c else None in o) sector
+had_in rows width at sector = option_and_then (λ c. let o : Option ℕ = if is_in (row_in_words rows width at) c then Some c else None in o) sector
 
 -- the same of the sector into which one comes by the half-edge through a line
 abbrev pub wanted_in : List ℕ → ℕ → ℕ → HalfEdge → Option ℕ

@@ -2,7 +2,7 @@
 use Rattle.std.specs.Prelude.{ℕ, zero, suc, ◌+◌, ◌-◌, ◌^◌, List, [], ◌∷◌, Option, Some, None, length, slice_get}
 use Rattle.cert_checker.specs.declared.tree_judge.roots.Root.{Root}
 use Rattle.gate_floods.specs.RowJudge.Asked.{Pending, pending_roots}
-use Rattle.gate_floods.specs.RowJudge.Words.{row_at}
+use Rattle.gate_floods.specs.RowJudge.Words.{row_in_words}
 use Rattle.gate_floods.specs.declared.row_judge.follow.Wait.{Wait}
 use Rattle.gate_floods.specs.declared.row_judge.walk.RowWalk.{RowWalk}
 use Rattle.row_trees.specs.Walkable.{Scene}
@@ -42,5 +42,5 @@ chain_of roots zero o = []
 chain_of roots (suc n) o = root_at_then roots o (λ next. chain_of roots n next)
 
 -- of a walk, by its state alone
-abbrev pub remaining : Scene → RowWalk → ℕ
-remaining s w = weight_of_asked (most s) w.follow.depth w.follow.asked + (weight_of_waits (most s) w.waits.items + weight (most s) (pending_roots s.masks (row_at w.rows.items s.masks.width 0) (chain_of s.roots (length s.roots) w.follow.root)))
+abbrev pub row_walk_left : Scene → RowWalk → ℕ
+row_walk_left s w = weight_of_asked (most s) w.follow.depth w.follow.asked + (weight_of_waits (most s) w.waits.items + weight (most s) (pending_roots s.masks (row_in_words w.rows.items s.masks.width 0) (chain_of s.roots (length s.roots) w.follow.root)))

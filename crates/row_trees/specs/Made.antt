@@ -10,20 +10,20 @@ use Rattle.pair_budget.specs.Walked.{AreReached}
 use Rattle.gate_floods.specs.RowJudge.Masks.{MaskRows}
 use Rattle.gate_floods.specs.RowJudge.Words.{is_in}
 use Rattle.gate_floods.specs.declared.row_judge.walk.RowWalk.{RowWalk}
-use Rattle.gate_floods.specs.RowJudge.Judged.{tree_of, IsWalked, IsWholeFrom}
+use Rattle.gate_floods.specs.RowJudge.Judged.{tree_with, IsTreeWalkedInRow, IsWholeFrom}
 use Rattle.row_trees.specs.declared.made.Made.{Made}
 
 module _ (xs : List HalfEdge) (ms : MaskRows) (row : List ℕ) (roots : List Root) (firsts : List (Option ℕ)) (source : ℕ) where
   -- if nothing was found so far, all nodes have answered, and the judge's walk stands behind them
   abbrev pub IsMadeSoFar : RowWalk → Made → Type 0
-  IsMadeSoFar w made = made.found.items ≡ [] → IsWalked xs ms row roots firsts (tree_of source made.nodes) w
+  IsMadeSoFar w made = made.found.items ≡ [] → IsTreeWalkedInRow xs ms row roots firsts (tree_with source made.nodes) w
 
   -- if nothing was found, the nodes answer for all that is asked
-  abbrev pub IsMade : Made → Type 0
-  IsMade made = made.found.items ≡ [] → IsWholeFrom xs ms row roots firsts (tree_of source made.nodes)
+  abbrev pub AreNodesMade : Made → Type 0
+  AreNodesMade made = made.found.items ≡ [] → IsWholeFrom xs ms row roots firsts (tree_with source made.nodes)
 
 -- each is another sector of the map, reached by a sight ray from the source, and none is there twice
-pub record AreSeen (p : PlanParts) (source : ℕ) (found : List Reached) : Type 0 where
+pub record AreFoundSeen (p : PlanParts) (source : ℕ) (found : List Reached) : Type 0 where
   pub reached : AreReached p source found
   pub sight : All (λ (r : Reached). IsSightRay (map_of p) r.ray source r.to) found
 

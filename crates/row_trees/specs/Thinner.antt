@@ -3,15 +3,15 @@ use Rattle.std.specs.Prelude.{◌≡◌, ℕ, ◌⊎◌, List, [], ◌∷◌, le
 use Rattle.std.specs.Int.{bit_at}
 use Rattle.gate_floods.specs.declared.row_judge.walk.RowWalk.{RowWalk}
 use Rattle.gate_floods.specs.RowJudge.Asked.{Pending}
-use Rattle.gate_floods.specs.RowJudge.Words.{is_in, row_at}
+use Rattle.gate_floods.specs.RowJudge.Words.{is_in, row_in_words}
 
 -- each bit of the one word is set in the other
 abbrev pub IsPartOf : ℕ → ℕ → Type 0
 IsPartOf x y = (k : ℕ) → bit_at x k ≡ 1 → bit_at y k ≡ 1
 
 -- each number of the one row is in the other
-abbrev pub IsWithin : List ℕ → List ℕ → Type 0
-IsWithin xs ys = (c : ℕ) → is_in xs c ≡ true → is_in ys c ≡ true
+abbrev pub IsRowWithin : List ℕ → List ℕ → Type 0
+IsRowWithin xs ys = (c : ℕ) → is_in xs c ≡ true → is_in ys c ≡ true
 
 -- so many words, without any new bit
 pub record AreThinner (old new : List ℕ) : Type 0 where
@@ -27,13 +27,13 @@ pub record SameButRows (old new : RowWalk) : Type 0 where
 
 -- the walk's present row has nothing that its first one doesn't have
 abbrev pub IsPresent : ℕ → RowWalk → Type 0
-IsPresent width w = IsWithin (row_at w.rows.items width w.follow.row) (row_at w.rows.items width 0)
+IsPresent width w = IsRowWithin (row_in_words w.rows.items width w.follow.row) (row_in_words w.rows.items width 0)
 
 -- one half-edge with a row that has no more
 pub record IsThinned (p q : Pending) : Type 0 where
   pub path : q.path ≡ p.path
   pub edge : q.edge ≡ p.edge
-  pub row : IsWithin q.row p.row
+  pub row : IsRowWithin q.row p.row
 
 -- some of these half-edges in order, with rows that have no more
 abbrev pub AreThinned : List Pending → List Pending → Type 0

@@ -10,7 +10,7 @@ use Rattle.mesh_shape.specs.declared.half_edges.table.HalfEdge.{HalfEdge}
 use Rattle.mesh_shape.specs.HalfEdges.HalfEdges.{AreHalfEdges}
 use Rattle.cert_checker.specs.declared.tree_judge.roots.Root.{Root}
 use Rattle.cert_checker.specs.declared.tree_judge.trees.Terrain.{Terrain}
-use Rattle.cert_checker.specs.TreeJudge.Roots.{AreRoots}
+use Rattle.cert_checker.specs.TreeJudge.Roots.{AreRootChains}
 use Rattle.gate_floods.specs.declared.row_judge.masks.Masks.{Masks}
 use Rattle.gate_floods.specs.RowJudge.Masks.{MaskRows, rows_of}
 
@@ -27,7 +27,7 @@ pub record IsWalkable (g : Ground) (xs : List HalfEdge) (roots : List Root) (fir
   pub good : IsGoodMesh (map_of g.plan) g.triangles g.labels
   pub few : length g.triangles ≤ MOST_TRIANGLES
   pub edges : AreHalfEdges g.plan g.triangles g.labels xs
-  pub roots_are : AreRoots (map_of g.plan) g.triangles xs roots firsts
+  pub roots_are : AreRootChains (map_of g.plan) g.triangles xs roots firsts
   pub within : source < g.plan.sectors
 
 -- half-edges, roots and masks, as plain lists
@@ -37,8 +37,8 @@ pub record Scene : Type 0 where
   pub firsts : List (Option ℕ)
   pub masks : MaskRows
 
-abbrev pub scene_of : Terrain → Masks → Scene
-scene_of t ms = record { edges = t.edges.now; roots = t.roots.now.roots.items; firsts = t.roots.now.first.items; masks = rows_of ms }
+abbrev pub row_scene_of : Terrain → Masks → Scene
+row_scene_of t ms = record { edges = t.edges.now; roots = t.roots.now.roots.items; firsts = t.roots.now.first.items; masks = rows_of ms }
 
 -- a walk over this ground from the source for what the row has
 pub record Search : Type 0 where

@@ -2,7 +2,7 @@
 
 ghost use Rattle.std.specs.Prelude.{◌≡◌, ◌≢◌, ◌<◌, ◌≤◌, [], MatchOption, length, take};
 ghost use Rattle.sight_names.specs.Splitting.{SplitsEnds};
-ghost use Rattle.stab_hull.specs.Answer.{IsLineInRange, IsPassed};
+ghost use Rattle.stab_hull.specs.Answer.{IsLineInRange, IsPortalPassed};
 ghost use Rattle.stab_hull.specs.Sleeves.{HasLastLeft, HasLastRight};
 ghost use Rattle.row_trees.specs.Path.{HasEndOfLast};
 
@@ -20,11 +20,11 @@ pub struct Path {
 impl Model for Path {
     ghost use Rattle.std.specs.Prelude.{List};
     ghost use Rattle.sight_names.specs.Splitting.{EndPoints};
-    ghost use Rattle.stab_hull.specs.Sleeves.{IsTrack, ends_of};
+    ghost use Rattle.stab_hull.specs.Sleeves.{IsTrack, ends_of_track};
 
     ghost Value = { List EndPoints };
 
-    ghost view = { λ p. ends_of p.track };
+    ghost view = { λ p. ends_of_track p.track };
 
     ghost invariant = { λ p. IsTrack p.track };
 }
@@ -53,13 +53,13 @@ impl Path {
     /// Adds the portal from the last left end to this right end, as `pass` does.
     // what comes of it is taken apart at once: it needn't stand in memory
     #[inline(always)]
-    fn by_left(&mut self, left: Pt, right: Pt) -> Result<Passed, Memory>
+    fn by_new_right(&mut self, left: Pt, right: Pt) -> Result<Passed, Memory>
         requires last { HasLastLeft self.old left }
         requires proper { left ≢ right }
         requires room { length self.old < RIGHT_END }
-        ensures { IsPassed self.old (record { left = left; right = right }) self.new result }
+        ensures { IsPortalPassed self.old (record { left = left; right = right }) self.new result }
     {
-        match self.track.by_left((), left, right)? {
+        match self.track.by_new_right((), left, right)? {
             Told::Open => Ok(Passed::Open),
             Told::Stuck(evidence) => Ok(Passed::Stuck(evidence)),
             Told::Unseen => self.track.by_search((), left, right),
@@ -68,13 +68,13 @@ impl Path {
 
     /// The same from this left end to the last right end.
     #[inline(always)]
-    fn by_right(&mut self, left: Pt, right: Pt) -> Result<Passed, Memory>
+    fn by_new_left(&mut self, left: Pt, right: Pt) -> Result<Passed, Memory>
         requires last { HasLastRight self.old right }
         requires proper { left ≢ right }
         requires room { length self.old < RIGHT_END }
-        ensures { IsPassed self.old (record { left = left; right = right }) self.new result }
+        ensures { IsPortalPassed self.old (record { left = left; right = right }) self.new result }
     {
-        match self.track.by_right((), left, right)? {
+        match self.track.by_new_left((), left, right)? {
             Told::Open => Ok(Passed::Open),
             Told::Stuck(evidence) => Ok(Passed::Stuck(evidence)),
             Told::Unseen => self.track.by_search((), left, right),
@@ -101,7 +101,7 @@ impl Path {
         requires proper { left ≢ right }
         requires room { length self.old < RIGHT_END }
         requires joins { HasEndOfLast self.old left right }
-        ensures { IsPassed self.old (record { left = left; right = right }) self.new result }
+        ensures { IsPortalPassed self.old (record { left = left; right = right }) self.new result }
     {
         match self.last_left() {
             None => {
@@ -110,9 +110,9 @@ impl Path {
             }
             Some(last) => {
                 if last == left {
-                    self.by_left(left, right)
+                    self.by_new_right(left, right)
                 } else {
-                    self.by_right(left, right)
+                    self.by_new_left(left, right)
                 }
             }
         }

@@ -4,8 +4,8 @@ ghost use Rattle.std.specs.Prelude.{◌≡◌, ◌+◌, ◌≤◌, ◌∷◌, �
 ghost use Rattle.gate_floods.specs.RowJudge.Asked.{Pending};
 ghost use Rattle.gate_floods.specs.RowJudge.Judged.{StandsAt};
 ghost use Rattle.gate_floods.specs.RowJudge.Masks.{rows_of};
-ghost use Rattle.gate_floods.specs.RowJudge.Words.{is_in, row_at};
-ghost use Rattle.row_trees.specs.Thinner.{AreThinned, AreThinner, IsPresent, IsWithin, SameButRows};
+ghost use Rattle.gate_floods.specs.RowJudge.Words.{is_in, row_in_words};
+ghost use Rattle.row_trees.specs.Thinner.{AreThinned, AreThinner, IsPresent, IsRowWithin, SameButRows};
 
 use cert_checker::tree_judge::Terrain;
 use gate_floods::row_judge::words::part;
@@ -26,7 +26,7 @@ fn drop_first(rows: &mut [u64], sector: u16)
 fn meet_first(rows: &mut [u64], at: usize, width: usize)
     requires room { at + width ≤ length rows.old }
     ensures thinner { AreThinner rows.old rows.new }
-    ensures present { IsWithin (row_at rows.new width at) (row_at rows.new width 0) }
+    ensures present { IsRowWithin (row_in_words rows.new width at) (row_in_words rows.new width 0) }
 {
     'words: for place in 0..width {
         rows[at + place] &= rows[place];
@@ -38,7 +38,7 @@ pub fn forget(walk: &mut RowWalk, width: usize, sector: u16)
     requires room { walk.old.follow.row + width ≤ length walk.old.rows.items }
     ensures same { SameButRows walk.old walk.new }
     ensures thinner { AreThinner walk.old.rows.items walk.new.rows.items }
-    ensures gone { is_in (row_at walk.new.rows.items width 0) sector ≡ false }
+    ensures gone { is_in (row_in_words walk.new.rows.items width 0) sector ≡ false }
     ensures present { IsPresent width walk.new }
 {
     let row = walk.follow.row;
@@ -88,7 +88,7 @@ fn is_unwanted(walk: &RowWalk, masks: &Masks<'_>) -> bool
 /// Goes on while nothing that is still wanted is left behind what is asked.
 pub fn skip_unwanted(walk: &mut RowWalk, terrain: &Terrain<'_>, masks: &Masks<'_>)
     requires stands { (first : List ℕ) × (ps : List Pending) × StandsAt (rows_of masks.now) first terrain.now.roots.now.roots.items walk.old ps }
-    ensures stands { (first : List ℕ) (ps : List Pending) → StandsAt (rows_of masks.now) first terrain.now.roots.now.roots.items walk.old ps → (later : List ℕ) × (qs : List Pending) × StandsAt (rows_of masks.now) later terrain.now.roots.now.roots.items walk.new qs × AreThinned ps qs × IsWithin later first }
+    ensures stands { (first : List ℕ) (ps : List Pending) → StandsAt (rows_of masks.now) first terrain.now.roots.now.roots.items walk.old ps → (later : List ℕ) × (qs : List Pending) × StandsAt (rows_of masks.now) later terrain.now.roots.now.roots.items walk.new qs × AreThinned ps qs × IsRowWithin later first }
     ensures present { IsPresent masks.now.width walk.new }
     ensures source { walk.new.source ≡ walk.old.source }
 {

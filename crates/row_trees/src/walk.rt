@@ -4,17 +4,17 @@ ghost use Rattle.std.specs.Prelude.{◌≡◌, ◌≢◌, ◌⊎◌, ◌+◌, �
 ghost use Rattle.sight_names.specs.Splitting.{EndPoints, IsSplittable};
 ghost use Rattle.block_evidence.specs.declared.sight_tree.Node.TheVariants.{Open};
 ghost use Rattle.mesh_shape.specs.declared.half_edges.table.HalfEdge.{HalfEdge as HalfEdgeOf};
-ghost use Rattle.portal_walk.specs.Nodes.{IsAnswered};
-ghost use Rattle.portal_walk.specs.Walk.{ends_of};
+ghost use Rattle.portal_walk.specs.Nodes.{IsNodeAnswered};
+ghost use Rattle.portal_walk.specs.Walk.{half_edge_ends};
 ghost use Rattle.stab_hull.specs.Answer.{IsBarredBy};
-ghost use Rattle.gate_floods.specs.RowJudge.Asked.{Answers, Pending, row_behind};
+ghost use Rattle.gate_floods.specs.RowJudge.Asked.{AnswersFirstInRow, Pending, row_behind};
 ghost use Rattle.gate_floods.specs.RowJudge.Judged.{AsksNothing, StandsAt};
 ghost use Rattle.gate_floods.specs.RowJudge.Masks.{rows_of};
-ghost use Rattle.gate_floods.specs.RowJudge.Words.{is_away, row_at};
+ghost use Rattle.gate_floods.specs.RowJudge.Words.{is_away, row_in_words};
 ghost use Rattle.row_trees.specs.Going.{IsAfter, IsGoing, IsTried};
-ghost use Rattle.row_trees.specs.Made.{AreSeen, AreWanted, IsMade, IsMadeSoFar};
+ghost use Rattle.row_trees.specs.Made.{AreFoundSeen, AreWanted, AreNodesMade, IsMadeSoFar};
 ghost use Rattle.row_trees.specs.Thinner.{IsPresent};
-ghost use Rattle.row_trees.specs.Walkable.{Ground, IsWalkable, Search, scene_of};
+ghost use Rattle.row_trees.specs.Walkable.{Ground, IsWalkable, Search, row_scene_of};
 
 use crate::finding::{reached, wanted};
 use crate::made::Made;
@@ -58,10 +58,10 @@ fn may_have_found(judged: &RowWalk, depth: usize, made: &Made) -> bool
 /// Keeps the node while nothing was found.
 #[inline(always)]
 fn keep(made: &mut Made, node: Node) -> Result<(), Memory>
-    requires answered { IsAnswered node }
+    requires answered { IsNodeAnswered node }
     ensures found { made.new.found.items ≡ made.old.found.items }
     ensures nodes { made.old.found.items ≡ [] → OnOk result (made.new.nodes ≡ made.old.nodes ++ node ∷ []) }
-    ensures answered { All IsAnswered made.old.nodes → IfOk result (λ _. All IsAnswered made.new.nodes) }
+    ensures answered { All IsNodeAnswered made.old.nodes → IfOk result (λ _. All IsNodeAnswered made.new.nodes) }
 {
     if !made.found.is_empty() {
         return Ok(());
@@ -96,13 +96,13 @@ impl Walk {
         requires there { slice_get terrain.now.edges.now number ≡ Given edge.now }
         requires away { is_away (row_behind (rows_of masks.now) self.old.judged.rows.items self.old.judged.follow.row number) edge.now.sector ≡ true }
         requires stands { (first : List ℕ) × (ps : List Pending) × StandsAt (rows_of masks.now) first terrain.now.roots.now.roots.items self.old.judged ps }
-        ensures stands { (first : List ℕ) (ps qs : List Pending) → StandsAt (rows_of masks.now) first terrain.now.roots.now.roots.items self.old.judged ps → Answers terrain.now.edges.now (rows_of masks.now) self.old.judged.source ps Open qs → IfOk result (λ _. StandsAt (rows_of masks.now) first terrain.now.roots.now.roots.items self.new.judged qs) }
+        ensures stands { (first : List ℕ) (ps qs : List Pending) → StandsAt (rows_of masks.now) first terrain.now.roots.now.roots.items self.old.judged ps → AnswersFirstInRow terrain.now.edges.now (rows_of masks.now) self.old.judged.source ps Open qs → IfOk result (λ _. StandsAt (rows_of masks.now) first terrain.now.roots.now.roots.items self.new.judged qs) }
         ensures source { self.new.judged.source ≡ self.old.judged.source }
         ensures ends { self.new.ends ≡ self.old.ends }
         ensures root { self.new.root ≡ self.old.root }
         ensures found { made.new.found.items ≡ made.old.found.items }
         ensures made { (row : List ℕ) (source : ℕ) → IsMadeSoFar terrain.now.edges.now (rows_of masks.now) row terrain.now.roots.now.roots.items terrain.now.roots.now.first.items source self.old.judged made.old → IfOk result (λ _. IsMadeSoFar terrain.now.edges.now (rows_of masks.now) row terrain.now.roots.now.roots.items terrain.now.roots.now.first.items source self.new.judged made.new) }
-        ensures answered { All IsAnswered made.old.nodes → IfOk result (λ _. All IsAnswered made.new.nodes) }
+        ensures answered { All IsNodeAnswered made.old.nodes → IfOk result (λ _. All IsNodeAnswered made.new.nodes) }
     {
         self.judged.go(terrain, masks, number, edge)?;
         keep(made, Node::Open)
@@ -117,13 +117,13 @@ impl Walk {
         edge: &HalfEdge,
         made: &mut Made,
     ) -> Result<(), Memory>
-        requires tried { (s : Search) × (n : ℕ) × (before : List EndPoints) × (self.old.ends ≡ before ++ ends_of edge.now ∷ []) × IsTried (scene_of terrain.now masks.now) s self.old.root before self.old.judged made.old.found.items edge.now n }
-        ensures tried { (s : Search) (n : ℕ) (before : List EndPoints) → self.old.ends ≡ before ++ ends_of edge.now ∷ [] → IsTried (scene_of terrain.now masks.now) s self.old.root before self.old.judged made.old.found.items edge.now n → IfOk result (λ _. IsTried (scene_of terrain.now masks.now) s self.new.root before self.new.judged made.new.found.items edge.now n) }
-        ensures away { IfOk result (λ _. is_away (row_at self.new.judged.rows.items masks.now.width self.new.judged.follow.row) edge.now.sector ≡ true) }
+        requires tried { (s : Search) × (n : ℕ) × (before : List EndPoints) × (self.old.ends ≡ before ++ half_edge_ends edge.now ∷ []) × IsTried (row_scene_of terrain.now masks.now) s self.old.root before self.old.judged made.old.found.items edge.now n }
+        ensures tried { (s : Search) (n : ℕ) (before : List EndPoints) → self.old.ends ≡ before ++ half_edge_ends edge.now ∷ [] → IsTried (row_scene_of terrain.now masks.now) s self.old.root before self.old.judged made.old.found.items edge.now n → IfOk result (λ _. IsTried (row_scene_of terrain.now masks.now) s self.new.root before self.new.judged made.new.found.items edge.now n) }
+        ensures away { IfOk result (λ _. is_away (row_in_words self.new.judged.rows.items masks.now.width self.new.judged.follow.row) edge.now.sector ≡ true) }
         ensures asked { self.new.judged.follow.asked ≡ self.old.judged.follow.asked }
         ensures ends { self.new.ends ≡ self.old.ends }
         ensures made { (row : List ℕ) (source : ℕ) → IsMadeSoFar terrain.now.edges.now (rows_of masks.now) row terrain.now.roots.now.roots.items terrain.now.roots.now.first.items source self.old.judged made.old → IfOk result (λ _. IsMadeSoFar terrain.now.edges.now (rows_of masks.now) row terrain.now.roots.now.roots.items terrain.now.roots.now.first.items source self.new.judged made.new) }
-        ensures answered { All IsAnswered made.old.nodes → IfOk result (λ _. All IsAnswered made.new.nodes) }
+        ensures answered { All IsNodeAnswered made.old.nodes → IfOk result (λ _. All IsNodeAnswered made.new.nodes) }
     {
         let Some(to) = wanted(&self.judged, masks.width, edge) else {
             return Ok(());
@@ -147,10 +147,10 @@ impl Walk {
     ) -> Result<(), Memory>
         requires asked { self.old.judged.follow.asked ≡ Given number }
         requires splittable { IsSplittable self.old.ends }
-        requires tried { (s : Search) × (n : ℕ) × (before : List EndPoints) × (self.old.ends ≡ before ++ ends_of edge.now ∷ []) × IsTried (scene_of terrain.now masks.now) s self.old.root before self.old.judged made.old.found.items edge.now n }
-        ensures after { (s : Search) (n : ℕ) (before : List EndPoints) → self.old.ends ≡ before ++ ends_of edge.now ∷ [] → IsTried (scene_of terrain.now masks.now) s self.old.root before self.old.judged made.old.found.items edge.now (n + 1) → IfOk result (λ _. IsAfter (scene_of terrain.now masks.now) s self.new.root self.new.ends self.new.judged made.new.found.items n (length before)) }
+        requires tried { (s : Search) × (n : ℕ) × (before : List EndPoints) × (self.old.ends ≡ before ++ half_edge_ends edge.now ∷ []) × IsTried (row_scene_of terrain.now masks.now) s self.old.root before self.old.judged made.old.found.items edge.now n }
+        ensures after { (s : Search) (n : ℕ) (before : List EndPoints) → self.old.ends ≡ before ++ half_edge_ends edge.now ∷ [] → IsTried (row_scene_of terrain.now masks.now) s self.old.root before self.old.judged made.old.found.items edge.now (n + 1) → IfOk result (λ _. IsAfter (row_scene_of terrain.now masks.now) s self.new.root self.new.ends self.new.judged made.new.found.items n (length before)) }
         ensures made { (row : List ℕ) (source : ℕ) → IsMadeSoFar terrain.now.edges.now (rows_of masks.now) row terrain.now.roots.now.roots.items terrain.now.roots.now.first.items source self.old.judged made.old → IfOk result (λ _. IsMadeSoFar terrain.now.edges.now (rows_of masks.now) row terrain.now.roots.now.roots.items terrain.now.roots.now.first.items source self.new.judged made.new) }
-        ensures answered { All IsAnswered made.old.nodes → IfOk result (λ _. All IsAnswered made.new.nodes) }
+        ensures answered { All IsNodeAnswered made.old.nodes → IfOk result (λ _. All IsNodeAnswered made.new.nodes) }
     {
         self.find(terrain, masks, edge, made)?;
         self.enter(terrain, masks, number, edge, made)
@@ -166,10 +166,10 @@ impl Walk {
         evidence: Evidence,
         made: &mut Made,
     ) -> Result<(), Memory>
-        requires tried { (s : Search) × (n : ℕ) × (edge : HalfEdgeOf) × IsBarredBy (self.old.ends ++ ends_of edge ∷ []) evidence × IsTried (scene_of terrain.now masks.now) s self.old.root self.old.ends self.old.judged made.old.found.items edge n }
-        ensures after { (s : Search) (n : ℕ) (edge : HalfEdgeOf) → IsBarredBy (self.old.ends ++ ends_of edge ∷ []) evidence → IsTried (scene_of terrain.now masks.now) s self.old.root self.old.ends self.old.judged made.old.found.items edge (n + 1) → IfOk result (λ _. IsAfter (scene_of terrain.now masks.now) s self.new.root self.new.ends self.new.judged made.new.found.items n (length self.old.ends)) }
+        requires tried { (s : Search) × (n : ℕ) × (edge : HalfEdgeOf) × IsBarredBy (self.old.ends ++ half_edge_ends edge ∷ []) evidence × IsTried (row_scene_of terrain.now masks.now) s self.old.root self.old.ends self.old.judged made.old.found.items edge n }
+        ensures after { (s : Search) (n : ℕ) (edge : HalfEdgeOf) → IsBarredBy (self.old.ends ++ half_edge_ends edge ∷ []) evidence → IsTried (row_scene_of terrain.now masks.now) s self.old.root self.old.ends self.old.judged made.old.found.items edge (n + 1) → IfOk result (λ _. IsAfter (row_scene_of terrain.now masks.now) s self.new.root self.new.ends self.new.judged made.new.found.items n (length self.old.ends)) }
         ensures made { (row : List ℕ) (source : ℕ) → IsMadeSoFar terrain.now.edges.now (rows_of masks.now) row terrain.now.roots.now.roots.items terrain.now.roots.now.first.items source self.old.judged made.old → IfOk result (λ _. IsMadeSoFar terrain.now.edges.now (rows_of masks.now) row terrain.now.roots.now.roots.items terrain.now.roots.now.first.items source self.new.judged made.new) }
-        ensures answered { All IsAnswered made.old.nodes → IfOk result (λ _. All IsAnswered made.new.nodes) }
+        ensures answered { All IsNodeAnswered made.old.nodes → IfOk result (λ _. All IsNodeAnswered made.new.nodes) }
     {
         keep(made, Node::Blocked(evidence))?;
         skip(&mut self.judged, terrain, masks);
@@ -187,10 +187,10 @@ impl Walk {
         made: &mut Made,
     ) -> Result<(), Memory>
         requires asked { self.old.judged.follow.asked ≡ Given number }
-        requires tried { (s : Search) × (n : ℕ) × IsTried (scene_of terrain.now masks.now) s self.old.root self.old.ends self.old.judged made.old.found.items edge.now n }
-        ensures after { (s : Search) (n : ℕ) → IsTried (scene_of terrain.now masks.now) s self.old.root self.old.ends self.old.judged made.old.found.items edge.now (n + 1) → IfOk result (λ _. IsAfter (scene_of terrain.now masks.now) s self.new.root self.new.ends self.new.judged made.new.found.items n (length self.old.ends)) }
+        requires tried { (s : Search) × (n : ℕ) × IsTried (row_scene_of terrain.now masks.now) s self.old.root self.old.ends self.old.judged made.old.found.items edge.now n }
+        ensures after { (s : Search) (n : ℕ) → IsTried (row_scene_of terrain.now masks.now) s self.old.root self.old.ends self.old.judged made.old.found.items edge.now (n + 1) → IfOk result (λ _. IsAfter (row_scene_of terrain.now masks.now) s self.new.root self.new.ends self.new.judged made.new.found.items n (length self.old.ends)) }
         ensures made { (row : List ℕ) (source : ℕ) → IsMadeSoFar terrain.now.edges.now (rows_of masks.now) row terrain.now.roots.now.roots.items terrain.now.roots.now.first.items source self.old.judged made.old → IfOk result (λ _. IsMadeSoFar terrain.now.edges.now (rows_of masks.now) row terrain.now.roots.now.roots.items terrain.now.roots.now.first.items source self.new.judged made.new) }
-        ensures answered { All IsAnswered made.old.nodes → IfOk result (λ _. All IsAnswered made.new.nodes) }
+        ensures answered { All IsNodeAnswered made.old.nodes → IfOk result (λ _. All IsNodeAnswered made.new.nodes) }
     {
         match self.ends.pass(edge.left_at, edge.right_at)? {
             Passed::Open => self.go_through(terrain, masks, number, edge, made),
@@ -202,8 +202,8 @@ impl Walk {
     /// back to so many portals at most: the row there may have what was found since.
     #[inline(always)]
     fn come_back(&mut self, terrain: &Terrain<'_>, masks: &Masks<'_>, depth: usize, made: &Made)
-        requires after { (s : Search) × (n : ℕ) × IsAfter (scene_of terrain.now masks.now) s self.old.root self.old.ends self.old.judged made.now.found.items n depth }
-        ensures going { (s : Search) (n : ℕ) → IsAfter (scene_of terrain.now masks.now) s self.old.root self.old.ends self.old.judged made.now.found.items n depth → IsGoing (scene_of terrain.now masks.now) s self.new.root self.new.ends self.new.judged made.now.found.items n }
+        requires after { (s : Search) × (n : ℕ) × IsAfter (row_scene_of terrain.now masks.now) s self.old.root self.old.ends self.old.judged made.now.found.items n depth }
+        ensures going { (s : Search) (n : ℕ) → IsAfter (row_scene_of terrain.now masks.now) s self.old.root self.old.ends self.old.judged made.now.found.items n depth → IsGoing (row_scene_of terrain.now masks.now) s self.new.root self.new.ends self.new.judged made.now.found.items n }
         ensures present { (k : ℕ) → self.new.judged.follow.asked ≡ Given k → IsPresent masks.now.width self.new.judged }
         ensures made { (row : List ℕ) (source : ℕ) → IsMadeSoFar terrain.now.edges.now (rows_of masks.now) row terrain.now.roots.now.roots.items terrain.now.roots.now.first.items source self.old.judged made.now → IsMadeSoFar terrain.now.edges.now (rows_of masks.now) row terrain.now.roots.now.roots.items terrain.now.roots.now.first.items source self.new.judged made.now }
     {
@@ -223,11 +223,11 @@ impl Walk {
     ) -> Result<(), Memory>
         requires asked { self.old.judged.follow.asked ≡ Given number }
         requires present { IsPresent masks.now.width self.old.judged }
-        requires going { (s : Search) × (n : ℕ) × IsGoing (scene_of terrain.now masks.now) s self.old.root self.old.ends self.old.judged made.old.found.items n }
-        ensures going { (s : Search) (n : ℕ) → IsGoing (scene_of terrain.now masks.now) s self.old.root self.old.ends self.old.judged made.old.found.items (n + 1) → IfOk result (λ _. IsGoing (scene_of terrain.now masks.now) s self.new.root self.new.ends self.new.judged made.new.found.items n) }
+        requires going { (s : Search) × (n : ℕ) × IsGoing (row_scene_of terrain.now masks.now) s self.old.root self.old.ends self.old.judged made.old.found.items n }
+        ensures going { (s : Search) (n : ℕ) → IsGoing (row_scene_of terrain.now masks.now) s self.old.root self.old.ends self.old.judged made.old.found.items (n + 1) → IfOk result (λ _. IsGoing (row_scene_of terrain.now masks.now) s self.new.root self.new.ends self.new.judged made.new.found.items n) }
         ensures present { IfOk result (λ _. (k : ℕ) → self.new.judged.follow.asked ≡ Given k → IsPresent masks.now.width self.new.judged) }
         ensures made { (row : List ℕ) (source : ℕ) → IsMadeSoFar terrain.now.edges.now (rows_of masks.now) row terrain.now.roots.now.roots.items terrain.now.roots.now.first.items source self.old.judged made.old → IfOk result (λ _. IsMadeSoFar terrain.now.edges.now (rows_of masks.now) row terrain.now.roots.now.roots.items terrain.now.roots.now.first.items source self.new.judged made.new) }
-        ensures answered { All IsAnswered made.old.nodes → IfOk result (λ _. All IsAnswered made.new.nodes) }
+        ensures answered { All IsNodeAnswered made.old.nodes → IfOk result (λ _. All IsNodeAnswered made.new.nodes) }
     {
         let edge = terrain.edges.get(number).unwrap();
         let depth = self.judged.follow.depth;
@@ -252,9 +252,9 @@ pub fn walk_by_row(
 ) -> Result<Made, Memory>
     requires width { length row.now ≡ masks.now.width }
     requires walkable { (over : Ground) × IsWalkable over terrain.now.edges.now terrain.now.roots.now.roots.items terrain.now.roots.now.first.items source }
-    ensures answered { IfOk result (λ made. All IsAnswered made.nodes) }
-    ensures made { IfOk result (IsMade terrain.now.edges.now (rows_of masks.now) row.now terrain.now.roots.now.roots.items terrain.now.roots.now.first.items source) }
-    ensures found { (over : Ground) → IsWalkable over terrain.now.edges.now terrain.now.roots.now.roots.items terrain.now.roots.now.first.items source → IfOk result (λ made. AreSeen over.plan source made.found.items) }
+    ensures answered { IfOk result (λ made. All IsNodeAnswered made.nodes) }
+    ensures made { IfOk result (AreNodesMade terrain.now.edges.now (rows_of masks.now) row.now terrain.now.roots.now.roots.items terrain.now.roots.now.first.items source) }
+    ensures found { (over : Ground) → IsWalkable over terrain.now.edges.now terrain.now.roots.now.roots.items terrain.now.roots.now.first.items source → IfOk result (λ made. AreFoundSeen over.plan source made.found.items) }
     ensures wanted { IfOk result (λ made. AreWanted row.now source made.found.items) }
 {
     let mut made = Made {

@@ -11,14 +11,14 @@ use Rattle.sight_names.specs.Map.{Map}
 use Rattle.shelf_io.specs.Shelf.{Files, content_of}
 use Rattle.wad_dir.specs.declared.parts.MapSpot.{MapSpot}
 use Rattle.wad_dir.specs.Print.{with_reject}
-use Rattle.wad_dir.specs.Wad.{WadFile, names_of, wad_of}
+use Rattle.wad_dir.specs.Wad.{WadFile, names_of_lumps, wad_of}
 use Rattle.wad_dir.proofs.Eight.{HasNames, names_read, names_rewritten}
 use Rattle.wad_dir.proofs.WadRewrite.Reading.{printed_reads}
 use Rattle.wad_dir.specs.declared.all_maps.parts.Change.{Change}
 use Rattle.wad_dir.specs.AllMaps.All.{HasInOrder, HasReject, IsAll, names_changed, with_all}
 use Rattle.wad_dir.proofs.AllMaps.InOrder.{in_order_through}
-use Rattle.wad_dir.specs.AllMaps.Maps.{maps_of}
-use Rattle.wad_dir.specs.AllMaps.Names.{word_of}
+use Rattle.wad_dir.specs.AllMaps.Maps.{maps_in_names}
+use Rattle.wad_dir.specs.AllMaps.Names.{name_before_nul}
 use Rattle.wad_dir.proofs.AllMaps.Lasting.{each_table_is_there}
 use Rattle.wad_dir.proofs.AllMaps.Merging.{all_spliced, each_change_is_made}
 use Rattle.wad_dir.specs.AllMaps.Spliced.{spliced}
@@ -32,16 +32,16 @@ use Rattle.map_answers.specs.Input.{LocatedMap, found_in, map_at, map_named, of_
 use Rattle.whole_wad.specs.declared.outcomes.MapOutcome.{MapOutcome}
 use Rattle.whole_wad.specs.declared.tables.MapTable.{MapTable}
 use Rattle.whole_wad.specs.Outcomes.{AreOutcomes, ComesOf, changes_of}
-use Rattle.whole_wad.specs.Report.{report_of}
+use Rattle.whole_wad.specs.Report.{outcomes_report}
 use Rattle.whole_wad.specs.Tables.{Gets}
 use Rattle.whole_wad.proofs.Changing.{changed_in_order}
 use Rattle.whole_wad.proofs.OneOutcome.{one_got}
 use Rattle.sight_run.specs.All.{AllCalls, MapsCall, OnRead, ShowsAll, maps_in, wad_in}
 use Rattle.sight_run.specs.Build.{wad_output}
 use Rattle.run_laws.specs.Laws.{AllIsAsBuild, AllKeepsLumps, HasLengthOf, KeepsAllLumps, table_built}
-use Rattle.sight_run.specs.Obeys.{AnswersAsked}
+use Rattle.sight_run.specs.Obeys.{AnswersOrder}
 use Rattle.sight_run.specs.Reading.{found_of, of_fetch}
-use Rattle.sight_run.specs.Run.{put_all}
+use Rattle.sight_run.specs.Run.{put_outputs}
 use Rattle.sight_run.specs.Words.{asked_of, file_in, spelling_in}
 use Rattle.run_laws.proofs.Keeping.{stored}
 use Rattle.sight_run.proofs.Round.{passes, same_ok, was_found, was_wad}
@@ -81,12 +81,12 @@ contained : {A : Type 0} (P : A → Type 0) (xs : List A) (x : A) → AllByRecur
 contained P xs x all c = all_at P xs all c.0 x (slice_get-get_or xs c.0 x c.1 ∙ ap (λ y. Some y) c.2)
 
 module _ (wad : Source) (name : List ℕ) (files : Files) (w : WadFile) (found : LocatedMap) (maps : List (List ℕ)) (method : Method) (choice : Refused) (outcomes : List MapOutcome) (is_wad : wad_in wad.file files ≡ Ok w) (is_found : found_of wad name files ≡ Ok found) (are : AreOutcomes w wad.large maps method choice outcomes) where
-  got : (o : MapOutcome) → Contains outcomes o → word_of o.name ≡ name → Gets (Ok found.map) method o.made
+  got : (o : MapOutcome) → Contains outcomes o → name_before_nul o.name ≡ name → Gets (Ok found.map) method o.made
   got o c e =
-      let is : map_named wad.large w (word_of o.name) ≡ Ok found.map = ap (map_named wad.large w) e ∙ named_there wad name files w found is_wad is_found in
+      let is : map_named wad.large w (name_before_nul o.name) ≡ Ok found.map = ap (map_named wad.large w) e ∙ named_there wad name files w found is_wad is_found in
       subst (λ (r : Result Map Status). Gets r method o.made) is (contained (ComesOf w wad.large method choice) outcomes o are.comes c).gets
 
-  made_as : (o : MapOutcome) → Contains outcomes o → word_of o.name ≡ name → (made : Result MapTable Status) → Gets (Ok found.map) method made → o.made ≡ made
+  made_as : (o : MapOutcome) → Contains outcomes o → name_before_nul o.name ≡ name → (made : Result MapTable Status) → Gets (Ok found.map) method made → o.made ≡ made
   made_as o c e made h = one_got (Ok found.map) method o.made made (got o c e) h
 
 pub all_is_as_build : AllIsAsBuild
@@ -117,22 +117,22 @@ pub record WasWritten (out : List ℕ) (w : WadFile) (outcomes : List MapOutcome
   pub made : IsAll w (changes_of outcomes) new
   pub tables : AllByRecursion (λ (c : Change). HasReject new c.name c.table) (changes_of outcomes)
   pub same : AllByRecursion (λ (c : Change). HasSameMap w new c.name) (changes_of outcomes)
-  pub lumps : new.lumps ≡ spliced (names_of w) w.lumps 0 (changes_of outcomes)
+  pub lumps : new.lumps ≡ spliced (names_of_lumps w) w.lumps 0 (changes_of outcomes)
 
 pub was_written : (words : List (List ℕ)) (wad : Source) (out : List ℕ) (only : Option (List (List ℕ))) (report : Option ReportFile) (workers : ℕ) (method : Method) (choice : Refused) (files : Files) (answer : Answer) (w : WadFile) (maps : List (List ℕ))
-    → asked_of words ≡ Ok (order.All wad out only report workers method choice) → wad_in wad.file files ≡ Ok w → maps_in (names_of w) only ≡ Ok maps
-    → (q : ShowsAll out report wad.large maps method choice w answer) → WasWritten out w q.outcomes (put_all files answer.writes)
+    → asked_of words ≡ Ok (order.All wad out only report workers method choice) → wad_in wad.file files ≡ Ok w → maps_in (names_of_lumps w) only ≡ Ok maps
+    → (q : ShowsAll out report wad.large maps method choice w answer) → WasWritten out w q.outcomes (put_outputs files answer.writes)
 was_written words wad out only report workers method choice files answer w maps is_asked e f q =
     let cs = changes_of q.outcomes in
-    let among : HasInOrder (maps_of (names_of w)) (names_changed cs) =
-    in_order_through (maps_of (names_of w)) maps (names_changed cs) (asked_are_maps (names_of w) only maps f)
+    let among : HasInOrder (maps_in_names (names_of_lumps w)) (names_changed cs) =
+    in_order_through (maps_in_names (names_of_lumps w)) maps (names_changed cs) (asked_are_maps (names_of_lumps w) only maps f)
     (subst (λ (ms : List (List ℕ)). HasInOrder ms (names_changed cs)) q.are.each (changed_in_order q.outcomes)) in
     let made : IsAll w cs (with_all w cs) = each_change_is_made w cs among in
     let old = fetched_wad wad.file files w e in
     let printed = printed_reads (with_all w cs) q.bytes (names_all w (with_all w cs) cs made (names_read old.bytes w old.read)) q.made in
     record {
       bytes = q.bytes;
-      stands = ap (λ (a : Answer). put_all files a.writes out) q.is ∙ before_report files (wad_output out q.bytes ∷ []) (file_in report) (report_of (spelling_in report) q.outcomes) out (out_apart wad.file out None (file_in report) (of_words words (order.All wad out only report workers method choice) is_asked)).1 ∙ stored files out q.bytes;
+      stands = ap (λ (a : Answer). put_outputs files a.writes out) q.is ∙ before_report files (wad_output out q.bytes ∷ []) (file_in report) (outcomes_report (spelling_in report) q.outcomes) out (out_apart wad.file out None (file_in report) (of_words words (order.All wad out only report workers method choice) is_asked)).1 ∙ stored files out q.bytes;
       short = printed.short;
       new = with_all w cs;
       read = printed.read;
@@ -143,9 +143,9 @@ was_written words wad out only report workers method choice files answer w maps 
     }
 
 pub all_keeps_lumps : AllKeepsLumps
-all_keeps_lumps words wad out only report workers method choice files heard answer is_asked h = on (wad_in wad.file files) refl (subst (λ r. AnswersAsked r files heard (Ok answer)) is_asked h)
+all_keeps_lumps words wad out only report workers method choice files heard answer is_asked h = on (wad_in wad.file files) refl (subst (λ r. AnswersOrder r files heard (Ok answer)) is_asked h)
   where
-    of_maps : (w : WadFile) (r : Result (List (List ℕ)) Status) → wad_in wad.file files ≡ Ok w → maps_in (names_of w) only ≡ r → OnRead r (λ maps. MapsCall out report wad.large maps method choice w) (Ok answer) → KeepsAllLumps wad out only method choice files (put_all files answer.writes)
+    of_maps : (w : WadFile) (r : Result (List (List ℕ)) Status) → wad_in wad.file files ≡ Ok w → maps_in (names_of_lumps w) only ≡ r → OnRead r (λ maps. MapsCall out report wad.large maps method choice w) (Ok answer) → KeepsAllLumps wad out only method choice files (put_outputs files answer.writes)
     of_maps w (Err s) e f q = absurd cc
     of_maps w (Ok maps) e f q =
         let x = was_written words wad out only report workers method choice files answer w maps is_asked e f q in
@@ -156,7 +156,7 @@ all_keeps_lumps words wad out only report workers method choice files heard answ
           asked = f;
           outcomes = q.outcomes;
           are = q.are;
-          lengths = all_so (ComesOf w wad.large method choice) (λ (o : MapOutcome). HasLengthOf (map_named wad.large w (word_of o.name)) o.made) q.outcomes (λ o k. has_length (map_named wad.large w (word_of o.name)) method o.made k.gets) q.are.comes;
+          lengths = all_so (ComesOf w wad.large method choice) (λ (o : MapOutcome). HasLengthOf (map_named wad.large w (name_before_nul o.name)) o.made) q.outcomes (λ o k. has_length (map_named wad.large w (name_before_nul o.name)) method o.made k.gets) q.are.comes;
           bytes = x.bytes;
           stands = x.stands;
           short = x.short;
@@ -167,6 +167,6 @@ all_keeps_lumps words wad out only report workers method choice files heard answ
           lumps = x.lumps;
         }
 
-    on : (r : Result WadFile Status) → wad_in wad.file files ≡ r → OnRead r (AllCalls out wad.large only report method choice) (Ok answer) → KeepsAllLumps wad out only method choice files (put_all files answer.writes)
+    on : (r : Result WadFile Status) → wad_in wad.file files ≡ r → OnRead r (AllCalls out wad.large only report method choice) (Ok answer) → KeepsAllLumps wad out only method choice files (put_outputs files answer.writes)
     on (Err s) e q = absurd cc
-    on (Ok w) e q = of_maps w (maps_in (names_of w) only) e refl q
+    on (Ok w) e q = of_maps w (maps_in (names_of_lumps w) only) e refl q

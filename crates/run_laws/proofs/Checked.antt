@@ -30,7 +30,7 @@ use Rattle.certificates.proofs.Again.{certificate_again}
 use Rattle.gate_floods.specs.Exact.{IsAcceptedThree}
 use Rattle.any_judge.specs.Accepted.{IsAccepted as IsAcceptedBy}
 use Rattle.exact_checker.proofs.OneExact.{told_same as told_same_of_three}
-use Rattle.cert_checker.specs.AcceptedGroups.Accepted.{IsAccepted, IsAcceptedOn, IsAcceptedTwo, IsAlone}
+use Rattle.cert_checker.specs.AcceptedGroups.Accepted.{IsAcceptedOne, IsAcceptedOn, IsAcceptedTwo, IsAlone}
 use Rattle.reject_bits.specs.Parts.{TableParts}
 use Rattle.cert_checker.specs.declared.verdict.Totals.{Totals}
 use Rattle.cert_checker.specs.Pairs.{AreTotals}
@@ -44,7 +44,7 @@ use Rattle.whole_wad.specs.Built.{DecidedBy, IsBuiltOf, OfExact}
 use Rattle.sight_names.specs.Groups.{AreGroups, IsInGroup}
 use Rattle.map_answers.specs.declared.counts.Counts.{Counts}
 use Rattle.map_answers.specs.Counts.{counts_with}
-use Rattle.order_words.specs.Words.{source_of}
+use Rattle.order_words.specs.Words.{wad_source}
 use Rattle.map_answers.specs.declared.sight_status.status.Flaw.TheVariants as flaw
 use Rattle.map_answers.specs.declared.sight_status.status.Role.{Role}
 use Rattle.map_answers.specs.declared.sight_status.status.Role.TheVariants as role
@@ -55,17 +55,17 @@ use Rattle.map_answers.specs.declared.sight_status.status.Why.TheVariants as why
 use Rattle.map_answers.specs.SightStatus.Answer.{Answer, ◌>>=◌, IsTheAnswer, Written, only_line}
 use Rattle.sight_run.specs.Build.{BuildCalls, ShowsBuild, build_writes, report_behind}
 use Rattle.sight_run.proofs.CheckInputs.{input_as, is_input}
-use Rattle.sight_run.specs.Judged.{IsJudged, JudgesOf, JudgesThreeOf, JudgesTwoOf}
-use Rattle.sight_run.specs.Check.{CheckInput, CheckCalls, IsVerdictOn, OnCheckInput, check_input, cert_in, finding_of, of_cert_fetch, of_length, of_reading, reject_of, told_as, yes_row}
+use Rattle.sight_run.specs.Judged.{IsJudgedOnMap, JudgesOf, JudgesThreeOf, JudgesTwoOf}
+use Rattle.sight_run.specs.Check.{CheckInput, CheckCalls, IsVerdictSpelled, OnCheckInput, check_input, cert_of_bytes, finding_of_verdict, of_cert_fetch, of_length, of_reading, reject_bytes, told_as, yes_row}
 use Rattle.map_answers.specs.Input.{LocatedMap, OnFound, found_in}
-use Rattle.sight_run.specs.Heard.{Heard}
+use Rattle.sight_run.specs.Heard.{ListenersHeard}
 use Rattle.sight_run.specs.Reading.{found_of, of_fetch}
-use Rattle.sight_run.specs.Obeys.{AnswersAsked, IsAnswer}
-use Rattle.sight_run.specs.Run.{IsBrokenBy, RunEnds, StandsUpTo, put_all}
+use Rattle.sight_run.specs.Obeys.{AnswersOrder, IsAnswer}
+use Rattle.sight_run.specs.Run.{IsBrokenBy, RunEnds, StandsUpTo, put_outputs}
 use Rattle.whole_wad.specs.Sizes.{sizes_of_map}
 use Rattle.map_answers.specs.Sound.{OnSoundLines}
 use Rattle.whole_wad.specs.Rejects.{table_len}
-use Rattle.run_laws.specs.Laws.{BuiltIsChecked, BuiltRunIsChecked, ChecksYes, HaveBoth, IsShort, SaysYes, Sinks, totals_of}
+use Rattle.run_laws.specs.Laws.{BuiltIsChecked, BuiltRunIsChecked, ChecksYes, HaveBoth, IsFileShort, SaysYes, Sinks, totals_of}
 use Rattle.sight_run.proofs.Round.{IsFoundAgain, found_again, found_then, same_ok}
 use Rattle.sight_run.proofs.Stood.{IsOther, before_report, bytes_of, cert_apart, of_words, out_apart, under_cert, under_out}
 use Rattle.run_laws.proofs.Totals.{same_counts}
@@ -97,7 +97,7 @@ module _ (m : Map) (t u : List ℕ) (bits : (k : ℕ) → k < m.sectors * m.sect
     clear = λ a b l w s n. h.clear a b l w (clear_in_first a b (low a b l w) w s) n;
   }
 
-  one_accepted : (c : CertParts) → IsAccepted m t c → IsAccepted m u c
+  one_accepted : (c : CertParts) → IsAcceptedOne m t c → IsAcceptedOne m u c
   one_accepted c h = record { mesh = h.mesh; on = on_accepted m (IsAlone m) c.listed c h.on }
 
   two_accepted : (c : CertTwo) → IsAcceptedTwo m t c → IsAcceptedTwo m u c
@@ -139,7 +139,7 @@ cert_fetched o bytes e le =
     by true q = absurd cc
     by false q = refl
 
-spelled_reads : (m : Map) (c : Certificate) (bytes : List ℕ) → Spells (sizes_of_map m) bytes c → cert_in m bytes ≡ Ok c
+spelled_reads : (m : Map) (c : Certificate) (bytes : List ℕ) → Spells (sizes_of_map m) bytes c → cert_of_bytes m bytes ≡ Ok c
 spelled_reads m c bytes h = ap of_reading (certificate_again (sizes_of_map m) bytes c h)
 
 -- ---- the verdict
@@ -185,21 +185,21 @@ totals_of_any m t other (Listing (Two c sizes)) listed totals same e h = totals_
 totals_of_any m t other (Exact c) listed totals same e h = totals_of_three m t other c listed totals same e h
 
 -- the bytes are those of a table whose certificate is accepted
-verdict_yes : (m : Map) (t : TableParts) (c : Certificate) (listed : List Pair) (spelled : Spelling) (given : Result Answer Status) → t.n ≡ m.sectors → HasList c listed → IsAcceptedBy m t.bytes c → IsVerdictOn spelled m (input_as t.bytes c) given
+verdict_yes : (m : Map) (t : TableParts) (c : Certificate) (listed : List Pair) (spelled : Spelling) (given : Result Answer Status) → t.n ≡ m.sectors → HasList c listed → IsAcceptedBy m t.bytes c → IsVerdictSpelled spelled m (input_as t.bytes c) given
     → IsYesFor m t listed spelled given
 verdict_yes m t c listed spelled given n e h v = by v.verdict v.judged v.told
   where
     same : HaveOneBits m v.table t
     same = record { first = v.is_table.sectors; second = n; bits = v.is_table.bits }
 
-    not_no : (f : AnyFault) → IsJudged m v.table c (verdict.No f) → ⊥
+    not_no : (f : AnyFault) → IsJudgedOnMap m v.table c (verdict.No f) → ⊥
     not_no f k = k.accepted.1 (accepted_same m t.bytes v.table.bytes v.is_table.bits c h)
 
-    by : (w : AnyVerdict) → IsJudged m v.table c w → given ≡ told_as spelled m.sectors (finding_of w) → IsYesFor m t listed spelled given
+    by : (w : AnyVerdict) → IsJudgedOnMap m v.table c w → given ≡ told_as spelled m.sectors (finding_of_verdict w) → IsYesFor m t listed spelled given
     by (verdict.Yes totals) k told = record { totals = totals; are = totals_of_any m t v.table c listed totals same e k.exact; is = told }
     by (verdict.No f) k told = absurd (not_no f k)
 
-past_lines : (spelled : Spelling) (m : Map) (b : CheckInput) (given : Result Answer Status) → LinesMeetAtEnds m → OnSoundLines m (OnCheckInput spelled m (Ok b)) given → IsVerdictOn spelled m b given
+past_lines : (spelled : Spelling) (m : Map) (b : CheckInput) (given : Result Answer Status) → LinesMeetAtEnds m → OnSoundLines m (OnCheckInput spelled m (Ok b)) given → IsVerdictSpelled spelled m b given
 past_lines spelled m b (Ok answer) meet q = q.1
 past_lines spelled m b (Err (status.BadMap (flaw.Line f))) meet q = absurd (not_sound m f q meet)
 past_lines spelled m b (Err s) meet q = q.1
@@ -215,11 +215,11 @@ wad_fetched large o name bytes found e lt h =
     by false q = refl
 
 -- the map was found in these bytes, and what was built of it is in these files
-module _ (large : Bool) (name out cert : List ℕ) (spelled_as : Spelling) (reported : Option (List ℕ)) (method : Method) (files others : Files) (heard : Heard) (found : LocatedMap) (answer : Answer) (given : Result Answer Status) where
+module _ (large : Bool) (name out cert : List ℕ) (spelled_as : Spelling) (reported : Option (List ℕ)) (method : Method) (files others : Files) (heard : ListenersHeard) (found : LocatedMap) (answer : Answer) (given : Result Answer Status) where
   checked : (old : List ℕ) → found_in large name old ≡ Ok found → same_name (codes "REJECT") name ≡ false → IsOther out (Some cert) × IsOther out reported → IsOther cert reported
       → (shows : ShowsBuild name out (Some cert) reported method found heard answer)
-      → HaveBoth (put_all files answer.writes) others out cert → IsShort others cert
-      → OnFound (found_of (source_of large out) name others) (CheckCalls spelled_as cert others) given → IsYesFor found.map shows.built.table shows.built.listed spelled_as given
+      → HaveBoth (put_outputs files answer.writes) others out cert → IsFileShort others cert
+      → OnFound (found_of (wad_source large out) name others) (CheckCalls spelled_as cert others) given → IsYesFor found.map shows.built.table shows.built.listed spelled_as given
   unfolding found_of
   checked old h other apart other_report shows have short q =
       let spelled : List ℕ = shows.spelled in
@@ -227,21 +227,21 @@ module _ (large : Bool) (name out cert : List ℕ) (spelled_as : Spelling) (repo
       let table : List ℕ = shows.built.table.bytes in
       let c : Certificate = shows.built.cert in
       let again : IsFoundAgain large name found table shows.bytes = found_again large name old table shows.bytes found h other shows.made in
-      let all : put_all files answer.writes ≡ put_all files (report_behind reported shows.report both) = ap (λ (x : Answer). put_all files x.writes) shows.is in
+      let all : put_outputs files answer.writes ≡ put_outputs files (report_behind reported shows.report both) = ap (λ (x : Answer). put_outputs files x.writes) shows.is in
       let at_out : others out ≡ Some shows.bytes = have.at_out ∙ ap (λ (f : Files). f out) all ∙ before_report files both reported shows.report out apart.1 ∙ under_out files out cert shows.bytes spelled apart.0 in
       let at_cert : others cert ≡ Some spelled = have.at_cert ∙ ap (λ (f : Files). f cert) all ∙ before_report files both reported shows.report cert other_report ∙ under_cert files out cert shows.bytes spelled in
-      let there : found_of (source_of large out) name others ≡ Ok (found_then found table) = wad_fetched large (others out) name shows.bytes (found_then found table) at_out again.short again.again in
+      let there : found_of (wad_source large out) name others ≡ Ok (found_then found table) = wad_fetched large (others out) name shows.bytes (found_then found table) at_out again.short again.again in
       let asked : CheckCalls spelled_as cert others (found_then found table) given = subst (λ (r : Result LocatedMap Status). OnFound r (CheckCalls spelled_as cert others) given) there q in
       let len : length table ≡ table_len found.map.sectors = shows.is_built.table_is_whole.len ∙ ap table_len shows.is_built.sectors in
       let reads : check_input cert (found_then found table) others ≡ Ok (input_as table c) =
-      is_input cert (found_then found table) others table spelled c (right_length found.map.sectors (reject_of (found_then found table)) table again.reject len)
+      is_input cert (found_then found table) others table spelled c (right_length found.map.sectors (reject_bytes (found_then found table)) table again.reject len)
       (cert_fetched (others cert) spelled at_cert (short spelled at_cert)) (spelled_reads found.map c spelled shows.spells) in
       verdict_yes found.map shows.built.table c shows.built.listed spelled_as given shows.is_built.sectors (list_of_build found.map method shows.built shows.is_built) shows.is_built.accepted
       (past_lines spelled_as found.map (input_as table c) given shows.is_built.fit.ends (subst (λ (r : Result CheckInput Status). OnSoundLines found.map (OnCheckInput spelled_as found.map r) given) reads asked))
 
 pub built_is_checked : BuiltIsChecked
 built_is_checked build check name out cert spelled files others heard answer ask h have short =
-    on (found_of ask.wad name files) refl (subst (λ r. AnswersAsked r files heard (Ok answer)) ask.built h)
+    on (found_of ask.wad name files) refl (subst (λ r. AnswersOrder r files heard (Ok answer)) ask.built h)
   where
     apart : IsOther out (Some cert) × IsOther out ask.report
     apart = out_apart ask.wad.file out (Some cert) ask.report (of_words build _ ask.built)
@@ -258,7 +258,7 @@ built_is_checked build check name out cert spelled files others heard answer ask
           counts = counts;
           built = ap (λ (x : Answer). x.line) shows.is;
           only = λ unheard given q.
-              let asked = subst (λ r. AnswersAsked r others unheard given) ask.checked q in
+              let asked = subst (λ r. AnswersOrder r others unheard given) ask.checked q in
               let yes = checked ask.wad.large name out cert spelled ask.report ask.method files others heard found answer given old.bytes old.are ask.other apart other_report shows have short asked in
               let same = same_counts shows.built.table shows.built.listed found.map.sectors yes.totals shows.is_built.symmetric shows.is_built.sectors yes.are in
               yes.is ∙ ap (λ (k : Counts). Ok (only_line (yes_row spelled k.sectors (totals_of k)))) same;
@@ -267,20 +267,20 @@ built_is_checked build check name out cert spelled files others heard answer ask
 -- ---- the runs
 
 -- the answer that a run gave which ended with Done
-pub record EndsDone (build : List (List ℕ)) (files stand : Files) (heard : Heard) (sinks : Sinks) : Type 0 where
+pub record EndsDone (build : List (List ℕ)) (files stand : Files) (heard : ListenersHeard) (sinks : Sinks) : Type 0 where
   pub answer : Answer
   pub called : IsAnswer build files heard (Ok answer)
   pub right : answer.right ≡ true
-  pub stands : stand ≡ put_all files answer.writes
+  pub stands : stand ≡ put_outputs files answer.writes
   pub said : sinks.new.held ≡ option_map (λ held. held ++ answer.line) sinks.old.held
 
-pub ends_done : (build : List (List ℕ)) (files stand : Files) (heard : Heard) (before after : ShelfState) (sinks : Sinks) → RunEnds build files heard before after sinks.old sinks.new status.Done → after.files ≡ Some stand
+pub ends_done : (build : List (List ℕ)) (files stand : Files) (heard : ListenersHeard) (before after : ShelfState) (sinks : Sinks) → RunEnds build files heard before after sinks.old sinks.new status.Done → after.files ≡ Some stand
     → EndsDone build files stand heard sinks
 ends_done build files stand heard before after sinks h e = record {
   answer = h.ends.answer;
   called = h.ends.called.called;
   right = h.ends.right_is;
-  stands = some_is_same stand (put_all files h.ends.answer.writes) (sym e ∙ h.ends.stands);
+  stands = some_is_same stand (put_outputs files h.ends.answer.writes) (sym e ∙ h.ends.stands);
   said = h.said ∙ ap (λ (l : List ℕ). option_map (λ held. held ++ l) sinks.old.held) h.ends.line_is;
 }
 
@@ -292,7 +292,7 @@ never_broken called Sole which files after line one h =
 never_refused : (called : Result Answer Status → Type 0) (Sole : Type 0) (line : List ℕ) (s : Status) → ((given : Result Answer Status) → called given → given ≡ Ok (only_line line)) → IsTheAnswer Sole called (Err s) → ⊥
 never_refused called Sole line s one h = let e = one (Err s) h.called in absurd cc
 
-ends_yes : (check : List (List ℕ)) (others : Files) (heard : Heard) (first last : ShelfState) (old new : SinkState) (spelled : Spelling) (counts : Counts) (s : Status)
+ends_yes : (check : List (List ℕ)) (others : Files) (heard : ListenersHeard) (first last : ShelfState) (old new : SinkState) (spelled : Spelling) (counts : Counts) (s : Status)
     → ((given : Result Answer Status) → IsAnswer check others heard given → given ≡ Ok (only_line (yes_row spelled counts.sectors (totals_of counts))))
     → RunEnds check others heard first last old new s → ChecksYes spelled counts old new s
 ends_yes check others heard first last old new spelled counts status.Done one h =
@@ -308,7 +308,7 @@ ends_yes check others heard first last old new spelled counts s one h = never_re
 pub built_run_is_checked : BuiltRunIsChecked
 built_run_is_checked build check name out cert spelled files stand others heard unheard before after first last building checking s ask ran e have short h =
     let done = ends_done build files stand heard before after building ran e in
-    let both : HaveBoth (put_all files done.answer.writes) others out cert = record { at_out = have.at_out ∙ ap (λ (f : Files). f out) done.stands; at_cert = have.at_cert ∙ ap (λ (f : Files). f cert) done.stands } in
+    let both : HaveBoth (put_outputs files done.answer.writes) others out cert = record { at_out = have.at_out ∙ ap (λ (f : Files). f out) done.stands; at_cert = have.at_cert ∙ ap (λ (f : Files). f cert) done.stands } in
     let yes = built_is_checked build check name out cert spelled files others heard done.answer ask done.called both short in
     record {
       counts = yes.counts;

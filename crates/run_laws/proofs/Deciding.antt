@@ -19,9 +19,9 @@ use Rattle.group_job.specs.Built.{WalkedMap}
 use Rattle.group_job.proofs.OneWalk.{budget_of_map}
 use Rattle.pair_answer.specs.declared.answer.PairAnswer.{PairAnswer}
 use Rattle.pair_answer.specs.declared.answer.PairAnswer.TheVariants as answer
-use Rattle.pair_answer.specs.Answer.{AnswersPair, AreTouching, IsAnswerFor, IsAnswerOver, IsMissing, IsRayOf}
+use Rattle.pair_answer.specs.Answer.{AnswersPair, AreTouching, IsAnswerFor, IsAnswerOver, IsMissing, IsRayOfGroups}
 use Rattle.pair_answer.proofs.Sectors.{sound, tells}
-use Rattle.run_laws.specs.Pairs.{DecidesPair, TellsPair}
+use Rattle.run_laws.specs.Pairs.{DecidesPair, TellsPairOfSectors}
 
 -- the first number of the pair that is of no sector, or what is told of the pair
 abbrev pub DecidesSectors : Map → Ask → Pair → PairAnswer → Type 0
@@ -36,13 +36,13 @@ module _ (p : PlanParts) (plan : IsPlan p) (faces : HasClosedFaces (map_of p)) (
   listed_is = listed_by_groups (map_of p) groups are (each_has_list p plan faces w.triangles mesh) w.g w.grouped (sound p plan faces ask groups are w).agree w.triangles w.labels w.mesh w.labelled w.budget a b
 
   -- what is found isn't listed
-  unlisted_found : (ray : Ray) → IsRayOf (map_of p) ask groups w a b ray → ¬ IsListedByGroups (map_of p) w.budget a b
+  unlisted_found : (ray : Ray) → IsRayOfGroups (map_of p) ask groups w a b ray → ¬ IsListedByGroups (map_of p) w.budget a b
   unlisted_found ray r l = let n = (listed_is.0 l).none r.f r.k r.from r.to in elim r.found as (λ _. ⊥) [ inl h ↦ n.1 h | inr h ↦ n.2 h ]
 
   unlisted_touching : AreTouching groups a b → ¬ IsListedByGroups (map_of p) w.budget a b
   unlisted_touching (f, ha, hb) l = ((listed_is.0 l).none f f ha hb).0 refl
 
-  decides : (given : PairAnswer) → IsAnswerOver (map_of p) ask groups w a b given → TellsPair (map_of p) w.budget (record { a = a; b = b }) given
+  decides : (given : PairAnswer) → IsAnswerOver (map_of p) ask groups w a b given → TellsPairOfSectors (map_of p) w.budget (record { a = a; b = b }) given
   decides (answer.Sight ray) h = (tells p plan faces ask groups are w a b (answer.Sight ray) h, unlisted_found ray h.1)
   decides answer.Blind h = h
   decides answer.Touch h = (tells p plan faces ask groups are w a b answer.Touch h, unlisted_touching h)
@@ -62,14 +62,14 @@ answers_decide p ask pair given plan faces h = go given h
     by : (x : PairAnswer) → AnswersPair (map_of p) ask pair x → DecidesPair (map_of p) ask pair x
     by x k =
         let of_map : IsBudgetOf (map_of p) ask k.walked.budget = budget_of_map (map_of p) k.groups k.walked.g k.walked.grouped ask k.walked.budget k.walked.is_budget in
-        let told : TellsPair (map_of p) k.walked.budget pair x = decides p plan faces ask k.groups k.are_groups k.walked pair.a pair.b x k.is in
+        let told : TellsPairOfSectors (map_of p) k.walked.budget pair x = decides p plan faces ask k.groups k.are_groups k.walked pair.a pair.b x k.is in
         record {
           first = k.first;
           second = k.second;
           budget = k.walked.budget;
           is_budget = of_map;
           tells = told;
-          told = λ all e. none_left (map_of p) ask k.walked.budget all of_map pair.a pair.b (subst (λ (y : PairAnswer). TellsPair (map_of p) k.walked.budget pair y) e told);
+          told = λ all e. none_left (map_of p) ask k.walked.budget all of_map pair.a pair.b (subst (λ (y : PairAnswer). TellsPairOfSectors (map_of p) k.walked.budget pair y) e told);
         }
 
     go : (x : PairAnswer) → IsAnswerFor (map_of p) ask pair x → DecidesSectors (map_of p) ask pair x

@@ -15,22 +15,22 @@ use Rattle.draw_answers.specs.Heat.{DrawHeatCalls, heat_drawing}
 use Rattle.draw_answers.specs.Plan.{plan_drawing}
 use Rattle.draw_answers.specs.Row.{DrawRowCalls, row_drawing}
 use Rattle.map_answers.specs.Input.{LocatedMap, OnFound}
-use Rattle.sight_run.specs.Check.{reject_of}
+use Rattle.sight_run.specs.Check.{reject_bytes}
 use Rattle.sight_run.specs.Draw.{ByOwnTable, DrawCalls, IsCallIn, OnTable, ViewCalls, named_in}
-use Rattle.sight_run.specs.Obeys.{AnswersAsked}
+use Rattle.sight_run.specs.Obeys.{AnswersOrder}
 use Rattle.sight_run.specs.Reading.{found_of}
-use Rattle.sight_run.specs.Run.{put_all}
+use Rattle.sight_run.specs.Run.{put_outputs}
 use Rattle.whole_wad.specs.Rejects.{table_len}
 use Rattle.sight_run.proofs.Round.{same_ok}
 use Rattle.run_laws.specs.Laws.{DrawLeavesPicture, IsPictureOf, LeavesPicture, ShowsFault, ShowsPlan, ShowsView}
 use Rattle.run_laws.proofs.Keeping.{stored}
 
-leaves : (files : Files) (out : List ℕ) (answer : Answer) (d : Drawing) (IsPicture : List ℕ → Type 0) → answer ≡ one_picture out d → IsPicture d.bytes → LeavesPicture out files (put_all files answer.writes) IsPicture
+leaves : (files : Files) (out : List ℕ) (answer : Answer) (d : Drawing) (IsPicture : List ℕ → Type 0) → answer ≡ one_picture out d → IsPicture d.bytes → LeavesPicture out files (put_outputs files answer.writes) IsPicture
 leaves files out answer d IsPicture e is = record {
   bytes = d.bytes;
   is_picture = is;
-  stands = ap (λ (a : Answer). put_all files a.writes out) e ∙ stored files out d.bytes;
-  others = λ name apart. ap (λ (a : Answer). put_all files a.writes name) e ∙ ap (λ (b : Bool). if b then Some d.bytes else files name) apart;
+  stands = ap (λ (a : Answer). put_outputs files a.writes out) e ∙ stored files out d.bytes;
+  others = λ name apart. ap (λ (a : Answer). put_outputs files a.writes name) e ∙ ap (λ (b : Bool). if b then Some d.bytes else files name) apart;
 }
 
 -- the bytes of the REJECT are a table, and the answer is one that it calls for
@@ -38,8 +38,8 @@ on_table : (Called : TableParts → Result Answer Status → Type 0) (m : Map) (
 on_table Called m raw s true answer q = q
 on_table Called m raw s false answer q = absurd cc
 
-call_in : (Called : TableParts → Result Answer Status → Type 0) (found : LocatedMap) (answer : Answer) → ByOwnTable Called found (Ok answer) → IsCallIn Called found.map (reject_of found) (Ok answer)
-call_in Called found answer q = on_table Called found.map (reject_of found) _ (length (reject_of found) == table_len found.map.sectors) answer q
+call_in : (Called : TableParts → Result Answer Status → Type 0) (found : LocatedMap) (answer : Answer) → ByOwnTable Called found (Ok answer) → IsCallIn Called found.map (reject_bytes found) (Ok answer)
+call_in Called found answer q = on_table Called found.map (reject_bytes found) _ (length (reject_bytes found) == table_len found.map.sectors) answer q
 
 -- the bytes that are drawn, and what they show
 record IsDrawn (name : NamedParts) (out : List ℕ) (asked : View) (found : LocatedMap) (answer : Answer) : Type 0 where
@@ -80,8 +80,8 @@ drawn name out (view.Pair pair ask) found answer q =
     }
 
 pub draw_leaves_picture : DrawLeavesPicture
-draw_leaves_picture words wad name out asked files heard answer is_asked h = on (found_of wad name files) refl (subst (λ r. AnswersAsked r files heard (Ok answer)) is_asked h)
+draw_leaves_picture words wad name out asked files heard answer is_asked h = on (found_of wad name files) refl (subst (λ r. AnswersOrder r files heard (Ok answer)) is_asked h)
   where
-    on : (r : Result LocatedMap Status) → found_of wad name files ≡ r → OnFound r (DrawCalls name out asked) (Ok answer) → LeavesPicture out files (put_all files answer.writes) (IsPictureOf wad name asked files)
+    on : (r : Result LocatedMap Status) → found_of wad name files ≡ r → OnFound r (DrawCalls name out asked) (Ok answer) → LeavesPicture out files (put_outputs files answer.writes) (IsPictureOf wad name asked files)
     on (Err s) e q = absurd cc
     on (Ok found) e q = let d = drawn (named_in found name) out asked found answer q in leaves files out answer d.drawing (IsPictureOf wad name asked files) d.is (record { found = found; was = e; shows = d.shows })

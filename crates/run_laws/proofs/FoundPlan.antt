@@ -11,7 +11,7 @@ use Rattle.sight_names.specs.Plan.{IsPlan, PlanParts}
 use Rattle.wad_dir.specs.declared.parts.MapSpot.{MapSpot}
 use Rattle.wad_dir.specs.Wad.{WadFile}
 use Rattle.run_laws.proofs.Planned.{HasPlan, lumps_have_plan}
-use Rattle.map_answers.specs.Input.{lump_at, map_at, of_four_lumps, of_text, reading_at, spelled}
+use Rattle.map_answers.specs.Input.{lump_at, map_at, of_four_lumps, of_text, reading_at, spelled_map}
 use Rattle.map_answers.specs.SightStatus.Answer.{◌>>=◌}
 use Rattle.map_answers.proofs.Linedefs.{no_fault}
 
@@ -27,7 +27,7 @@ text_plan reading (Err (text.TooManySides count)) m e = absurd cc
 text_plan reading (Err (text.Memory _)) m e = absurd cc
 text_plan reading (Err fault) m e = absurd cc
 
-spelled_plan : (t : Bool) (reading : Reading) (linedefs sidedefs vertexes sectors : List ℕ) (m : Map) → spelled t reading linedefs sidedefs vertexes sectors ≡ Ok m → HasPlan m
+spelled_plan : (t : Bool) (reading : Reading) (linedefs sidedefs vertexes sectors : List ℕ) (m : Map) → spelled_map t reading linedefs sidedefs vertexes sectors ≡ Ok m → HasPlan m
 spelled_plan true reading linedefs sidedefs vertexes sectors m e = text_plan reading (lumps_of_text linedefs) m e
 spelled_plan false reading linedefs sidedefs vertexes sectors m e = four_plan reading linedefs sidedefs vertexes sectors m e
 

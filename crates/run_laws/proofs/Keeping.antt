@@ -10,9 +10,9 @@ use Rattle.sight_run.specs.Build.{BuildCalls, build_writes, report_behind}
 use Rattle.map_answers.specs.Input.{LocatedMap, OnFound}
 use Rattle.sight_run.specs.Reading.{found_of}
 use Rattle.run_laws.specs.Laws.{BuildKeepsLumps, HasTableLength, IsClearTable, KeepsLumps, ZeroKeepsLumps}
-use Rattle.sight_run.specs.Obeys.{AnswersAsked}
+use Rattle.sight_run.specs.Obeys.{AnswersOrder}
 use Rattle.sight_run.specs.Reply.{one_output}
-use Rattle.sight_run.specs.Run.{put_all}
+use Rattle.sight_run.specs.Run.{put_outputs}
 use Rattle.sight_run.specs.Words.{given, has_twice}
 use Rattle.sight_run.specs.Zero.{ZeroCalls, with_table, zero_line, zeroed}
 use Rattle.whole_wad.specs.Rejects.{clear_table}
@@ -25,9 +25,9 @@ stored files out bytes = ap (λ (b : Bool). if b then Some bytes else files out)
 
 pub zero_keeps_lumps : ZeroKeepsLumps
 unfolding zeroed
-zero_keeps_lumps words wad name out files heard answer asked other h = on (found_of wad name files) refl (subst (λ r. AnswersAsked r files heard (Ok answer)) asked h)
+zero_keeps_lumps words wad name out files heard answer asked other h = on (found_of wad name files) refl (subst (λ r. AnswersOrder r files heard (Ok answer)) asked h)
   where
-    made : (found : LocatedMap) → Ok answer ≡ zeroed name out found → found_of wad name files ≡ Ok found → KeepsLumps wad name out files (put_all files answer.writes) IsClearTable
+    made : (found : LocatedMap) → Ok answer ≡ zeroed name out found → found_of wad name files ≡ Ok found → KeepsLumps wad name out files (put_outputs files answer.writes) IsClearTable
     made found e q =
         let table : List ℕ = clear_table found.map.sectors in
         let p = passes (with_table found table) (λ bytes. Ok (one_output role.Wad out bytes (zero_line name found.map.sectors))) answer (sym e) in
@@ -39,30 +39,30 @@ zero_keeps_lumps words wad name out files heard answer asked other h = on (found
           table = table;
           is_right = refl;
           bytes = p.x;
-          stands = ap (λ (a : Answer). put_all files a.writes out) (sym is) ∙ stored files out p.x;
+          stands = ap (λ (a : Answer). put_outputs files a.writes out) (sym is) ∙ stored files out p.x;
           again = written_again wad.large name old.bytes table p.x found old.are other p.step;
         }
 
-    on : (r : Result LocatedMap Status) → found_of wad name files ≡ r → OnFound r (ZeroCalls name out) (Ok answer) → KeepsLumps wad name out files (put_all files answer.writes) IsClearTable
+    on : (r : Result LocatedMap Status) → found_of wad name files ≡ r → OnFound r (ZeroCalls name out) (Ok answer) → KeepsLumps wad name out files (put_outputs files answer.writes) IsClearTable
     on (Err s) e q = absurd cc
     on (Ok found) e q = made found q e
 
 -- the WAD stands, with the certificate beside it or without
-made_stands : (files : Files) (out bytes : List ℕ) (asked : Option (List ℕ)) (spelled : List ℕ) → IsOther out asked → put_all files (build_writes out bytes asked spelled) out ≡ Some bytes
+made_stands : (files : Files) (out bytes : List ℕ) (asked : Option (List ℕ)) (spelled : List ℕ) → IsOther out asked → put_outputs files (build_writes out bytes asked spelled) out ≡ Some bytes
 made_stands files out bytes None spelled apart = stored files out bytes
 made_stands files out bytes (Some cert) spelled apart = under_out files out cert bytes spelled apart
 
 -- .. and with the report or without
 pub built_stands : (files : Files) (wad out bytes : List ℕ) (asked reported : Option (List ℕ)) (spelled report : List ℕ) → has_twice (wad ∷ out ∷ (given asked ++ given reported)) ≡ false
-    → put_all files (report_behind reported report (build_writes out bytes asked spelled)) out ≡ Some bytes
+    → put_outputs files (report_behind reported report (build_writes out bytes asked spelled)) out ≡ Some bytes
 built_stands files wad out bytes asked reported spelled report apart =
     let p = out_apart wad out asked reported apart in
     before_report files (build_writes out bytes asked spelled) reported report out p.1 ∙ made_stands files out bytes asked spelled p.0
 
 pub build_keeps_lumps : BuildKeepsLumps
-build_keeps_lumps words wad name out asked report workers method files heard answer is_asked other h = on (found_of wad name files) refl (subst (λ r. AnswersAsked r files heard (Ok answer)) is_asked h)
+build_keeps_lumps words wad name out asked report workers method files heard answer is_asked other h = on (found_of wad name files) refl (subst (λ r. AnswersOrder r files heard (Ok answer)) is_asked h)
   where
-    on : (r : Result LocatedMap Status) → found_of wad name files ≡ r → OnFound r (BuildCalls name out asked report method heard) (Ok answer) → KeepsLumps wad name out files (put_all files answer.writes) HasTableLength
+    on : (r : Result LocatedMap Status) → found_of wad name files ≡ r → OnFound r (BuildCalls name out asked report method heard) (Ok answer) → KeepsLumps wad name out files (put_outputs files answer.writes) HasTableLength
     on (Err s) e q = absurd cc
     on (Ok found) e q =
         let old = bytes_of wad name files found e in
@@ -72,6 +72,6 @@ build_keeps_lumps words wad name out asked report workers method files heard ans
           table = q.built.table.bytes;
           is_right = q.is_built.table_is_whole.len ∙ ap (λ n. div_ceil (n * n) 8) q.is_built.sectors;
           bytes = q.bytes;
-          stands = ap (λ (a : Answer). put_all files a.writes out) q.is ∙ built_stands files wad.file out q.bytes asked report q.spelled q.report (of_words words (order.Build wad name out asked report workers method) is_asked);
+          stands = ap (λ (a : Answer). put_outputs files a.writes out) q.is ∙ built_stands files wad.file out q.bytes asked report q.spelled q.report (of_words words (order.Build wad name out asked report workers method) is_asked);
           again = written_again wad.large name old.bytes q.built.table.bytes q.bytes found old.are other q.made;
         }

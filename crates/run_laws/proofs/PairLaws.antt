@@ -12,22 +12,22 @@ use Rattle.order_words.specs.declared.order.View.TheVariants as view
 use Rattle.order_words.proofs.Deciding.{asks_without_bound}
 use Rattle.map_answers.specs.declared.sight_status.status.Status.{Status}
 use Rattle.map_answers.specs.SightStatus.Answer.{Answer, only_line}
-use Rattle.map_answers.specs.Groups.{IsOverGroups, MapGroups}
+use Rattle.map_answers.specs.Groups.{IsMapWithGroups, MapGroups}
 use Rattle.map_answers.specs.Input.{LocatedMap, OnFound}
 use Rattle.pair_answer.specs.declared.answer.PairAnswer.{PairAnswer}
 use Rattle.pair_answer.specs.declared.answer.PairAnswer.TheVariants as answer
 use Rattle.pair_answer.specs.declared.entered_triangles.entered.Entered.{Entered}
 use Rattle.pair_answer.specs.Answer.{IsAnswerFor}
-use Rattle.pair_answer.specs.WhyAnswers.Lines.{blind_line, listed_line, sight_line, touch_line}
-use Rattle.pair_answer.specs.WhyAnswers.Why.{WhyCalls, said_of}
+use Rattle.pair_answer.specs.WhyAnswers.Lines.{blind_line, listed_line, sight_line_by, touch_line}
+use Rattle.pair_answer.specs.WhyAnswers.Why.{WhyCalls, said_of_answer}
 use Rattle.draw_answers.specs.Drawn.{Drawing}
 use Rattle.draw_answers.specs.Pair.{IsEnteredOver, ShowsPair}
 use Rattle.draw_answers.proofs.Closing.{blind_closed, unseen_not_shown}
 use Rattle.map_picture.specs.Picture.{NamedParts}
 use Rattle.sight_run.specs.Draw.{DrawCalls, named_in}
-use Rattle.sight_run.specs.Obeys.{AnswersAsked}
+use Rattle.sight_run.specs.Obeys.{AnswersOrder}
 use Rattle.sight_run.specs.Reading.{found_of}
-use Rattle.sight_run.specs.Run.{put_all}
+use Rattle.sight_run.specs.Run.{put_outputs}
 use Rattle.sight_run.proofs.Round.{same_ok, was_found}
 use Rattle.sight_run.proofs.Stood.{asked_is, bytes_of}
 use Rattle.run_laws.specs.Pairs.{DecidesPair, DrawnPairIsRight, DrawsOfPair, EnclosesSight, PairsAreDecided, SaysOfPair, WhyIsRight}
@@ -49,9 +49,9 @@ module _ (m : Map) (plan : HasPlan m) (closed : HasClosedFaces m) where
   decided : (ask : Ask) (pair : Pair) (given : PairAnswer) → IsAnswerFor m ask pair given → DecidesSectors m ask pair given
   decided ask pair given h = of_plan (λ (k : Map). HasClosedFaces k → IsAnswerFor k ask pair given → DecidesSectors k ask pair given) m plan (λ p is faces a. answers_decide p ask pair given is faces a) closed h
 
-encloses : (m : Map) → HasPlan m → (groups : MapGroups) → IsOverGroups m groups → (budget : Budget) (a : ℕ) (e : Entered) → IsEnteredOver groups budget a e → EnclosesSight m groups a e
+encloses : (m : Map) → HasPlan m → (groups : MapGroups) → IsMapWithGroups m groups → (budget : Budget) (a : ℕ) (e : Entered) → IsEnteredOver groups budget a e → EnclosesSight m groups a e
 encloses m plan groups over budget a e entered =
-    of_plan (λ (k : Map). IsOverGroups k groups → EnclosesSight k groups a e) m plan (λ p is of_p. record {
+    of_plan (λ (k : Map). IsMapWithGroups k groups → EnclosesSight k groups a e) m plan (λ p is of_p. record {
       closed = λ q r s at clear on. blind_closed p groups budget a e q r s is of_p entered at clear on;
       unseen = λ b blind k f there has. unseen_not_shown p groups budget a b e is of_p entered blind k f there has;
     }) over
@@ -64,18 +64,18 @@ pairs_are_decided words o m ask pair given asked two none decides = decides.told
 -- the line of an answer that has one
 record HasLineOf (pair : Pair) (given : PairAnswer) (answer : Answer) : Type 0 where
   line : List ℕ
-  is_line : said_of pair given ≡ Ok (only_line line)
+  is_line : said_of_answer pair given ≡ Ok (only_line line)
   is : answer ≡ only_line line
 
-line_of : (pair : Pair) (given : PairAnswer) (said : Answer) → Ok said ≡ said_of pair given → HasLineOf pair given said
-line_of pair (answer.Sight ray) said e = record { line = sight_line pair ray; is_line = refl; is = same_ok said (only_line (sight_line pair ray)) e }
+line_of : (pair : Pair) (given : PairAnswer) (said : Answer) → Ok said ≡ said_of_answer pair given → HasLineOf pair given said
+line_of pair (answer.Sight ray) said e = record { line = sight_line_by pair ray; is_line = refl; is = same_ok said (only_line (sight_line_by pair ray)) e }
 line_of pair answer.Blind said e = record { line = blind_line pair; is_line = refl; is = same_ok said (only_line (blind_line pair)) e }
 line_of pair answer.Touch said e = record { line = touch_line pair; is_line = refl; is = same_ok said (only_line (touch_line pair)) e }
 line_of pair answer.Listed said e = record { line = listed_line pair; is_line = refl; is = same_ok said (only_line (listed_line pair)) e }
 line_of pair (answer.NoSector k) said e = absurd cc
 
 -- an answer that is no missing sector tells of the pair
-tells_of : (m : Map) (ask : Ask) (pair : Pair) (given : PairAnswer) (line : List ℕ) → said_of pair given ≡ Ok (only_line line) → DecidesSectors m ask pair given → DecidesPair m ask pair given
+tells_of : (m : Map) (ask : Ask) (pair : Pair) (given : PairAnswer) (line : List ℕ) → said_of_answer pair given ≡ Ok (only_line line) → DecidesSectors m ask pair given → DecidesPair m ask pair given
 tells_of m ask pair (answer.Sight ray) line e h = h
 tells_of m ask pair answer.Blind line e h = h
 tells_of m ask pair answer.Touch line e h = h
@@ -85,9 +85,9 @@ tells_of m ask pair (answer.NoSector k) line e h = absurd cc
 pub why_is_right : WhyIsRight
 why_is_right words wad name pair ask files stand asked done =
     let e = was_answered words files stand done in
-    on (found_of wad name files) e.answer refl e.stands e.said (subst (λ r. AnswersAsked r files done.heard (Ok e.answer)) asked e.called)
+    on (found_of wad name files) e.answer refl e.stands e.said (subst (λ r. AnswersOrder r files done.heard (Ok e.answer)) asked e.called)
   where
-    on : (r : Result LocatedMap Status) (said : Answer) → found_of wad name files ≡ r → stand ≡ put_all files said.writes → done.sink.new.held ≡ option_map (λ held. held ++ said.line) done.sink.old.held
+    on : (r : Result LocatedMap Status) (said : Answer) → found_of wad name files ≡ r → stand ≡ put_outputs files said.writes → done.sink.new.held ≡ option_map (λ held. held ++ said.line) done.sink.old.held
         → OnFound r (λ (f : LocatedMap). WhyCalls ask pair f.map) (Ok said) → SaysOfPair wad name pair ask files stand done.sink
     on (Err s) said is left put h = absurd cc
     on (Ok found) said is left put h =
@@ -100,7 +100,7 @@ why_is_right words wad name pair ask files stand asked done =
           line = l.line;
           is_line = l.is_line;
           said = put ∙ ap (λ (a : Answer). option_map (λ held. held ++ a.line) done.sink.old.held) l.is;
-          stays = left ∙ ap (λ (a : Answer). put_all files a.writes) l.is;
+          stays = left ∙ ap (λ (a : Answer). put_outputs files a.writes) l.is;
         }
 
 -- ---- the picture of a pair
@@ -115,9 +115,9 @@ tells_drawn name m pair g ask (answer.NoSector k) d shows h = absurd shows
 pub drawn_pair_is_right : DrawnPairIsRight
 drawn_pair_is_right words wad name out pair ask files stand asked done =
     let e = was_answered words files stand done in
-    on (found_of wad name files) e.answer refl e.stands e.said (subst (λ r. AnswersAsked r files done.heard (Ok e.answer)) asked e.called)
+    on (found_of wad name files) e.answer refl e.stands e.said (subst (λ r. AnswersOrder r files done.heard (Ok e.answer)) asked e.called)
   where
-    on : (r : Result LocatedMap Status) (drawn : Answer) → found_of wad name files ≡ r → stand ≡ put_all files drawn.writes → done.sink.new.held ≡ option_map (λ held. held ++ drawn.line) done.sink.old.held
+    on : (r : Result LocatedMap Status) (drawn : Answer) → found_of wad name files ≡ r → stand ≡ put_outputs files drawn.writes → done.sink.new.held ≡ option_map (λ held. held ++ drawn.line) done.sink.old.held
         → OnFound r (DrawCalls name out (view.Pair pair ask)) (Ok drawn) → DrawsOfPair wad name out pair ask files stand done.sink
     on (Err s) drawn is left put h = absurd cc
     on (Ok found) drawn is left put h =
@@ -138,6 +138,6 @@ drawn_pair_is_right words wad name out pair ask files stand asked done =
           is_picture = s.is;
           lines = s.lines;
           faces = s.faces;
-          stands = ap (λ (fs : Files). fs out) left ∙ ap (λ (a : Answer). put_all files a.writes out) x.called.is ∙ stored files out x.called.shown.bytes;
+          stands = ap (λ (fs : Files). fs out) left ∙ ap (λ (a : Answer). put_outputs files a.writes out) x.called.is ∙ stored files out x.called.shown.bytes;
           said = put ∙ ap (λ (a : Answer). option_map (λ held. held ++ a.line) done.sink.old.held) x.called.is;
         }

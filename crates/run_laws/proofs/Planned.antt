@@ -9,16 +9,16 @@ use Rattle.sight_names.specs.declared.plan.Line.{Line}
 use Rattle.sight_names.specs.declared.faults.LumpFault.{LumpFault}
 use Rattle.sight_names.specs.declared.limits.TheConstants.{LARGE_LINES, LARGE_POINTS}
 use Rattle.sight_names.specs.Limits.{most_lines, most_points, most_sectors}
-use Rattle.sight_names.specs.Lumps.{count_linedefs, fault_if, first_of, line_fault, linedef, linedef_len, lines_fault, lump_fault, map_of_lumps, numbers_below, numbers_from, vertex_len}
+use Rattle.sight_names.specs.Lumps.{count_linedefs, lump_fault_if, first_lump_fault, line_fault, linedef, linedef_len, lines_fault, lump_fault, map_of_lumps, numbers_below, numbers_from, vertex_len}
 use Rattle.sight_names.specs.Map.{IsMap, Map, MapLine, looked_up, map_of, origin}
 use Rattle.sight_names.specs.Plan.{IsPlan, PlanParts}
-use Rattle.sight_names.specs.Points.{ends_of, points_of, pt_eq}
+use Rattle.sight_names.specs.Points.{ends_of_lines, points_of, pt_eq}
 use Rattle.sight_names.proofs.Lists.{contains_tail}
 use Rattle.sight_names.proofs.PlanNumbers.{number_at}
 use Rattle.sight_names.proofs.PlanPoints.{before_irreflexive, in_order_from, in_order_has, index_any}
 use Rattle.sight_names.specs.Plan.{IsBefore}
-use Rattle.map_lumps.specs.Answers.{Passes}
-use Rattle.map_lumps.specs.Records.{EndsBelow, IsInOrder}
+use Rattle.map_lumps.specs.Answers.{PassesChecks}
+use Rattle.map_lumps.specs.Records.{EndsBelow, ArePointsInOrder}
 use Rattle.map_lumps.proofs.Assembling.{is_plan}
 use Rattle.map_lumps.proofs.Numbering.{in_order_is}
 use Rattle.map_lumps.proofs.WholeMap.{lumps_are_map, within_lines, within_points}
@@ -43,12 +43,12 @@ abbrev numbered_lines : List Pt → List (Option MapLine) → List (Option Line)
 numbered_lines ps ls = map (option_map (numbered ps)) ls
 
 abbrev ends : List (Option MapLine) → List Pt
-ends ls = ends_of (filter_map (λ l. l) ls)
+ends ls = ends_of_lines (filter_map (λ l. l) ls)
 
 some_some : (a b : Line) → ◌≡◌ {A = Option (Option Line)} (Some (Some a)) (Some (Some b)) → a ≡ b
 some_some a b e = cc
 
-module _ (ps : List Pt) (order : IsInOrder ps) where
+module _ (ps : List Pt) (order : ArePointsInOrder ps) where
   -- a point that is there stands at its number
   at_number : (e : Pt) → Contains ps e → (slice_index_or ps (number_in ps e) origin ≡ e) × (number_in ps e < length ps)
   at_number e c =
@@ -89,7 +89,7 @@ module _ (ps : List Pt) (order : IsInOrder ps) where
 abbrev plan_over : Map → PlanParts
 plan_over m = record { sectors = m.sectors; points = points_of m; lines = numbered_lines (points_of m) m.lines }
 
-points_ordered : (m : Map) → IsInOrder (points_of m)
+points_ordered : (m : Map) → ArePointsInOrder (points_of m)
 unfolding points_of
 points_ordered m = in_order_is (ends m.lines)
 
@@ -115,14 +115,14 @@ map_has_plan m is few_points few_lines =
 
 -- ---- lumps that pass
 
-passes_if : (b : Bool) (f : LumpFault) (rest : Option LumpFault) → fault_if b f rest ≡ None → (b ≡ false) × (rest ≡ None)
+passes_if : (b : Bool) (f : LumpFault) (rest : Option LumpFault) → lump_fault_if b f rest ≡ None → (b ≡ false) × (rest ≡ None)
 passes_if false f rest e = (refl, e)
 passes_if true f rest e = absurd (no e)
   where
     no : ◌≡◌ {A = Option LumpFault} (Some f) None → ⊥
     no e = cc
 
-passes_first : (one rest : Option LumpFault) → first_of one rest ≡ None → (one ≡ None) × (rest ≡ None)
+passes_first : (one rest : Option LumpFault) → first_lump_fault one rest ≡ None → (one ≡ None) × (rest ≡ None)
 passes_first None rest e = (refl, e)
 passes_first (Some f) rest e = absurd (no e)
   where
@@ -148,7 +148,7 @@ not_more m n h = grind arith
 
 module _ (reading : Reading) (linedefs sidedefs vertexes sectors : List ℕ) where
   record Passed : Type 0 where
-    passes : Passes reading linedefs sidedefs vertexes sectors
+    passes : PassesChecks reading linedefs sidedefs vertexes sectors
     few_points : length (points_of (map_of_lumps reading.format linedefs sidedefs vertexes sectors)) ≤ most_points reading.large
 
   passed : lump_fault reading linedefs sidedefs vertexes sectors ≡ None → Passed

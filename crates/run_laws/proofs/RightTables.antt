@@ -28,7 +28,7 @@ use Rattle.cert_format.specs.declared.cert_groups.cert.AnyCert.TheVariants.{One,
 use Rattle.certificates.specs.declared.certificate.Certificate.{Certificate}
 use Rattle.certificates.specs.declared.certificate.Certificate.TheVariants.{Listing, Exact}
 use Rattle.certificates.specs.Reading.{certificate_at}
-use Rattle.cert_checker.specs.Sight.{TellsSight}
+use Rattle.cert_checker.specs.Sight.{TellsSightOne}
 use Rattle.group_checker.specs.declared.verdict.AnyVerdict.{AnyVerdict}
 use Rattle.group_checker.specs.declared.verdict.AnyVerdict.TheVariants as verdict
 use Rattle.group_checker.specs.Judged.{IsYesAny, with_list}
@@ -37,7 +37,7 @@ use Rattle.row_spelling.specs.declared.Spelling.TheVariants as spelling
 use Rattle.group_job.specs.Sectors.{AreListed}
 use Rattle.order_words.specs.declared.order.Order.TheVariants as order
 use Rattle.order_words.specs.declared.order.Source.{Source}
-use Rattle.order_words.specs.Words.{source_of}
+use Rattle.order_words.specs.Words.{wad_source}
 use Rattle.map_answers.specs.declared.sight_status.status.Status.{Status}
 use Rattle.map_answers.specs.declared.sight_status.status.Status.TheVariants as status
 use Rattle.map_answers.specs.declared.sight_status.status.Why.TheVariants as why
@@ -50,13 +50,13 @@ use Rattle.whole_wad.specs.declared.building.Built.{Built}
 use Rattle.whole_wad.specs.Built.{IsBuiltOf, ask_of}
 use Rattle.whole_wad.specs.Sizes.{sizes_of_map}
 use Rattle.sight_run.specs.Build.{BuildCalls, ShowsBuild}
-use Rattle.sight_run.specs.Check.{CheckCalls, CheckInput, IsTableOf, IsVerdictOn, OnCheckInput, cert_in, check_input, finding_of, no_object, of_cert_fetch, of_length, of_reading, refused_as, reject_of, told_as, why_of}
+use Rattle.sight_run.specs.Check.{CheckCalls, CheckInput, IsTableOfBytes, IsVerdictSpelled, OnCheckInput, cert_of_bytes, check_input, finding_of_verdict, no_object, of_cert_fetch, of_length, of_reading, refused_as, reject_bytes, told_as, why_no}
 use Rattle.run_laws.specs.Headline.{BuildLeavesLumps, BuildsLeaveOneWad, BuiltIsRight, CheckedIsRight, ExactIsRight, HasRightReject, IsRightTable, LeavesExactReject, LeavesExactTable, LeavesRightReject, WasDone, listed_of}
-use Rattle.sight_run.specs.Heard.{Heard}
+use Rattle.sight_run.specs.Heard.{ListenersHeard}
 use Rattle.run_laws.specs.Laws.{HasTableLength, KeepsLumps, Sinks}
-use Rattle.sight_run.specs.Obeys.{AnswersAsked}
+use Rattle.sight_run.specs.Obeys.{AnswersOrder}
 use Rattle.sight_run.specs.Reading.{found_of}
-use Rattle.sight_run.specs.Run.{put_all}
+use Rattle.sight_run.specs.Run.{put_outputs}
 use Rattle.sight_run.specs.Words.{given, has_twice}
 use Rattle.whole_wad.specs.Rejects.{table_len}
 use Rattle.run_laws.proofs.Checked.{EndsDone, ends_done, wad_fetched}
@@ -96,19 +96,19 @@ was_read (Err fault) c h = absurd cc
 
 -- the table that was judged is the map's REJECT, and the certificate is the one that the file spells
 record WasInput (name : List ℕ) (found : LocatedMap) (files : Files) (input : CheckInput) : Type 0 where
-  table : reject_of found ≡ input.table
-  long : IsTable found.map.sectors (reject_of found)
+  table : reject_bytes found ≡ input.table
+  long : IsTable found.map.sectors (reject_bytes found)
   bytes : List ℕ
   stands : files name ≡ Some bytes
   spelled : certificate_at (sizes_of_map found.map) bytes ≡ Ok input.cert
 
 was_input : (name : List ℕ) (found : LocatedMap) (files : Files) (input : CheckInput) → check_input name found files ≡ Ok input → WasInput name found files input
 was_input name found files input h =
-    let a = passes (of_length found.map.sectors (reject_of found)) (λ t. with_cert found.map t (of_cert_fetch (content_of (files name) 9223372036854775807))) input (sym (input_by name found files) ∙ h) in
-    let b = passes (of_cert_fetch (content_of (files name) 9223372036854775807)) (λ bytes. with_parts a.x (cert_in found.map bytes)) input a.rest in
-    let c = passes (cert_in found.map b.x) (λ parts. Ok (input_as a.x parts)) input b.rest in
+    let a = passes (of_length found.map.sectors (reject_bytes found)) (λ t. with_cert found.map t (of_cert_fetch (content_of (files name) 9223372036854775807))) input (sym (input_by name found files) ∙ h) in
+    let b = passes (of_cert_fetch (content_of (files name) 9223372036854775807)) (λ bytes. with_parts a.x (cert_of_bytes found.map bytes)) input a.rest in
+    let c = passes (cert_of_bytes found.map b.x) (λ parts. Ok (input_as a.x parts)) input b.rest in
     let is : input_as a.x c.x ≡ input = same_ok (input_as a.x c.x) input c.rest in
-    let taken = was_table found.map.sectors (reject_of found) a.x a.step in
+    let taken = was_table found.map.sectors (reject_bytes found) a.x a.step in
     record {
       table = taken.0 ∙ ap (λ (i : CheckInput). i.table) is;
       long = taken.1;
@@ -119,7 +119,7 @@ was_input name found files input h =
 
 -- ---- what `check` tells of it
 
-module _ (m : Map) (bytes : List ℕ) (t : TableParts) (spelled : IsTableOf m.sectors bytes t) (long : IsTable m.sectors bytes) where
+module _ (m : Map) (bytes : List ℕ) (t : TableParts) (spelled : IsTableOfBytes m.sectors bytes t) (long : IsTable m.sectors bytes) where
   -- a bit of the table is that of the bytes
   bit : (a b : ℕ) → a < m.sectors → b < m.sectors → table_bit t.bytes (a * t.n + b) ≡ table_bit bytes (a * m.sectors + b)
   bit a b la lb = ap (λ (n : ℕ). table_bit t.bytes (a * n + b)) spelled.sectors ∙ spelled.bits (a * m.sectors + b) (place_within a b m.sectors la lb)
@@ -127,7 +127,7 @@ module _ (m : Map) (bytes : List ℕ) (t : TableParts) (spelled : IsTableOf m.se
   is_clear : (a b : ℕ) → a < m.sectors → b < m.sectors → ¬ Rejected m.sectors bytes a b → ¬ Rejects t a b
   is_clear a b la lb clear set = clear (sym (bit a b la lb) ∙ set)
 
-  right_by : (c : CertParts) → TellsSight m t c → IsRightTable m bytes (AreListed c.listed)
+  right_by : (c : CertParts) → TellsSightOne m t c → IsRightTable m bytes (AreListed c.listed)
   right_by c h = record {
     long = long;
     blind = λ a b la lb set. h.blind a b la lb (bit a b la lb ∙ set);
@@ -151,11 +151,11 @@ module _ (m : Map) (bytes : List ℕ) (t : TableParts) (spelled : IsTableOf m.se
   right_by_any (Exact c) h = right_by_all h
 
 -- an answer with which all is right tells a yes
-yes_told : (spelled : Spelling) (n : ℕ) (v : AnyVerdict) (answer : Answer) → answer.right ≡ true → Ok answer ≡ told_as spelled n (finding_of v) → IsYesAny v
+yes_told : (spelled : Spelling) (n : ℕ) (v : AnyVerdict) (answer : Answer) → answer.right ≡ true → Ok answer ≡ told_as spelled n (finding_of_verdict v) → IsYesAny v
 yes_told spelled n (verdict.Yes totals) answer right e = tt
 yes_told spelling.Text n (verdict.No f) answer right e = absurd cc
 yes_told spelling.Json n (verdict.No f) answer right e =
-    let wrong : true ≡ false = sym right ∙ ap (λ (a : Answer). a.right) (same_ok answer (no_object (why_of f)) e) in absurd cc
+    let wrong : true ≡ false = sym right ∙ ap (λ (a : Answer). a.right) (same_ok answer (no_object (why_no f)) e) in absurd cc
 
 -- .. and no refusal
 right_unrefused : (spelled : Spelling) (s : Status) (answer : Answer) → answer.right ≡ true → Ok answer ≡ refused_as spelled s → ⊥
@@ -164,10 +164,10 @@ right_unrefused spelling.Json (status.No which) answer right e = let wrong : tru
 right_unrefused spelled s answer right e = cc
 
 module _ (wad : Source) (name cert : List ℕ) (spelled_as : Spelling) (files : Files) (answer : Answer) (all_right : answer.right ≡ true) where
-  right_verdict : (found : LocatedMap) (input : CheckInput) → found_of wad name files ≡ Ok found → check_input cert found files ≡ Ok input → IsVerdictOn spelled_as found.map input (Ok answer) → HasRightReject wad name cert files
+  right_verdict : (found : LocatedMap) (input : CheckInput) → found_of wad name files ≡ Ok found → check_input cert found files ≡ Ok input → IsVerdictSpelled spelled_as found.map input (Ok answer) → HasRightReject wad name cert files
   right_verdict found input is read v =
       let w = was_input cert found files input read in
-      let spelled : IsTableOf found.map.sectors (reject_of found) v.table = subst (λ (bs : List ℕ). IsTableOf found.map.sectors bs v.table) (sym w.table) v.is_table in
+      let spelled : IsTableOfBytes found.map.sectors (reject_bytes found) v.table = subst (λ (bs : List ℕ). IsTableOfBytes found.map.sectors bs v.table) (sym w.table) v.is_table in
       record {
         found = found;
         is_found = is;
@@ -175,7 +175,7 @@ module _ (wad : Source) (name cert : List ℕ) (spelled_as : Spelling) (files : 
         stands = w.stands;
         given = input.cert;
         spelled = w.spelled;
-        right = right_by_any found.map (reject_of found) v.table spelled w.long input.cert (v.judged.sight (yes_told spelled_as found.map.sectors v.verdict answer all_right v.told));
+        right = right_by_any found.map (reject_bytes found) v.table spelled w.long input.cert (v.judged.sight (yes_told spelled_as found.map.sectors v.verdict answer all_right v.told));
       }
 
   right_input : (found : LocatedMap) (r : Result CheckInput Status) → found_of wad name files ≡ Ok found → check_input cert found files ≡ r → OnCheckInput spelled_as found.map r (Ok answer) → HasRightReject wad name cert files
@@ -189,7 +189,7 @@ module _ (wad : Source) (name cert : List ℕ) (spelled_as : Spelling) (files : 
 pub checked_is_right : CheckedIsRight
 checked_is_right words wad name cert spelled files stand asked done =
     let e = was_answered words files stand done in
-    right_check wad name cert spelled files e.answer e.right (found_of wad name files) refl (subst (λ r. AnswersAsked r files done.heard (Ok e.answer)) asked e.called)
+    right_check wad name cert spelled files e.answer e.right (found_of wad name files) refl (subst (λ r. AnswersOrder r files done.heard (Ok e.answer)) asked e.called)
 
 -- ---- what a build tells of its table
 
@@ -229,8 +229,8 @@ module _ (m : Map) (method : Method) (built : Built) (is : IsBuiltOf m method bu
 -- ---- what a build left
 
 -- what a table that was built tells where it is the REJECT of the same map under OUT
-pub leaves_right : (wad : Source) (name out : List ℕ) (method : Method) (files stand : Files) (found new : LocatedMap) → found_of wad name files ≡ Ok found → found_of (source_of wad.large out) name stand ≡ Ok new → new.map ≡ found.map
-    → (built : Built) → IsBuiltOf found.map method built → reject_of new ≡ built.table.bytes → LeavesRightReject wad name out method files stand
+pub leaves_right : (wad : Source) (name out : List ℕ) (method : Method) (files stand : Files) (found new : LocatedMap) → found_of wad name files ≡ Ok found → found_of (wad_source wad.large out) name stand ≡ Ok new → new.map ≡ found.map
+    → (built : Built) → IsBuiltOf found.map method built → reject_bytes new ≡ built.table.bytes → LeavesRightReject wad name out method files stand
 leaves_right wad name out method files stand found new is is_new same built is_built reads =
     let allowed : Budget = is_built.decided.budget in
     record {
@@ -262,20 +262,20 @@ leaves_exact wad name out files stand right =
     }
   where
     -- a bit that isn't clear is set
-    set_bit : (a b : ℕ) → ¬ ¬ Rejected right.found.map.sectors (reject_of right.new) a b → Rejected right.found.map.sectors (reject_of right.new) a b
-    set_bit a b h = elim (same_or_not (table_bit (reject_of right.new) (a * right.found.map.sectors + b)) 1) as (λ _. Rejected right.found.map.sectors (reject_of right.new) a b) [
+    set_bit : (a b : ℕ) → ¬ ¬ Rejected right.found.map.sectors (reject_bytes right.new) a b → Rejected right.found.map.sectors (reject_bytes right.new) a b
+    set_bit a b h = elim (same_or_not (table_bit (reject_bytes right.new) (a * right.found.map.sectors + b)) 1) as (λ _. Rejected right.found.map.sectors (reject_bytes right.new) a b) [
       | inl set ↦ set
       | inr clear ↦ absurd (h clear)
     ]
 
-pub found_there : (large : Bool) (name out bytes : List ℕ) (stand : Files) (found : LocatedMap) → stand out ≡ Some bytes → length bytes < 2 ^ 31 → found_in large name bytes ≡ Ok found → found_of (source_of large out) name stand ≡ Ok found
+pub found_there : (large : Bool) (name out bytes : List ℕ) (stand : Files) (found : LocatedMap) → stand out ≡ Some bytes → length bytes < 2 ^ 31 → found_in large name bytes ≡ Ok found → found_of (wad_source large out) name stand ≡ Ok found
 unfolding found_of
 found_there large name out bytes stand found there short is = wad_fetched large (stand out) name bytes found there short is
 
-module _ (wad : Source) (name out : List ℕ) (cert report : Option (List ℕ)) (method : Method) (files stand : Files) (heard : Heard) (found : LocatedMap) (answer : Answer) (apart : has_twice (wad.file ∷ out ∷ (given cert ++ given report)) ≡ false) (shows : ShowsBuild name out cert report method found heard answer) (left : stand ≡ put_all files answer.writes) where
+module _ (wad : Source) (name out : List ℕ) (cert report : Option (List ℕ)) (method : Method) (files stand : Files) (heard : ListenersHeard) (found : LocatedMap) (answer : Answer) (apart : has_twice (wad.file ∷ out ∷ (given cert ++ given report)) ≡ false) (shows : ShowsBuild name out cert report method found heard answer) (left : stand ≡ put_outputs files answer.writes) where
   -- the WAD with the table stands under OUT
   wad_stands : stand out ≡ Some shows.bytes
-  wad_stands = ap (λ (f : Files). f out) left ∙ ap (λ (a : Answer). put_all files a.writes out) shows.is ∙ built_stands files wad.file out shows.bytes cert report shows.spelled shows.report apart
+  wad_stands = ap (λ (f : Files). f out) left ∙ ap (λ (a : Answer). put_outputs files a.writes out) shows.is ∙ built_stands files wad.file out shows.bytes cert report shows.spelled shows.report apart
 
   right_left : found_of wad name files ≡ Ok found → same_name (codes "REJECT") name ≡ false → LeavesRightReject wad name out method files stand
   right_left is other =
@@ -287,17 +287,17 @@ module _ (wad : Source) (name out : List ℕ) (cert report : Option (List ℕ)) 
 pub built_is_right : BuiltIsRight
 built_is_right words wad name out cert report workers method files stand asked other done =
     let e = was_answered words files stand done in
-    on (found_of wad name files) e.answer refl e.stands (subst (λ r. AnswersAsked r files done.heard (Ok e.answer)) asked e.called)
+    on (found_of wad name files) e.answer refl e.stands (subst (λ r. AnswersOrder r files done.heard (Ok e.answer)) asked e.called)
   where
     apart : has_twice (wad.file ∷ out ∷ (given cert ++ given report)) ≡ false
     apart = of_words words (order.Build wad name out cert report workers method) asked
 
-    on : (r : Result LocatedMap Status) (answer : Answer) → found_of wad name files ≡ r → stand ≡ put_all files answer.writes → OnFound r (BuildCalls name out cert report method done.heard) (Ok answer) → LeavesRightReject wad name out method files stand
+    on : (r : Result LocatedMap Status) (answer : Answer) → found_of wad name files ≡ r → stand ≡ put_outputs files answer.writes → OnFound r (BuildCalls name out cert report method done.heard) (Ok answer) → LeavesRightReject wad name out method files stand
     on (Err s) answer is left h = absurd cc
     on (Ok found) answer is left h = right_left wad name out cert report method files stand done.heard found answer apart h left is other
 
 -- what a build that decides every pair left
-module _ (wad : Source) (name out : List ℕ) (cert report : Option (List ℕ)) (files stand : Files) (heard : Heard) (sink : Sinks) (found : LocatedMap) (answer : Answer) (apart : has_twice (wad.file ∷ out ∷ (given cert ++ given report)) ≡ false) (shows : ShowsBuild name out cert report how.Exact found heard answer) (left : stand ≡ put_all files answer.writes) where
+module _ (wad : Source) (name out : List ℕ) (cert report : Option (List ℕ)) (files stand : Files) (heard : ListenersHeard) (sink : Sinks) (found : LocatedMap) (answer : Answer) (apart : has_twice (wad.file ∷ out ∷ (given cert ++ given report)) ≡ false) (shows : ShowsBuild name out cert report how.Exact found heard answer) (left : stand ≡ put_outputs files answer.writes) where
   exact_left : found_of wad name files ≡ Ok found → same_name (codes "REJECT") name ≡ false → sink.new.held ≡ option_map (λ held. held ++ answer.line) sink.old.held → LeavesExactReject wad name out files stand sink
   exact_left is other said = record {
     table = leaves_exact wad name out files stand (right_left wad name out cert report how.Exact files stand heard found answer apart shows left is other);
@@ -309,12 +309,12 @@ module _ (wad : Source) (name out : List ℕ) (cert report : Option (List ℕ)) 
 pub exact_is_right : ExactIsRight
 exact_is_right words wad name out cert report workers files stand asked other done =
     let e = was_answered words files stand done in
-    on (found_of wad name files) e.answer refl e.stands e.said (subst (λ r. AnswersAsked r files done.heard (Ok e.answer)) asked e.called)
+    on (found_of wad name files) e.answer refl e.stands e.said (subst (λ r. AnswersOrder r files done.heard (Ok e.answer)) asked e.called)
   where
     apart : has_twice (wad.file ∷ out ∷ (given cert ++ given report)) ≡ false
     apart = of_words words (order.Build wad name out cert report workers how.Exact) asked
 
-    on : (r : Result LocatedMap Status) (answer : Answer) → found_of wad name files ≡ r → stand ≡ put_all files answer.writes → done.sink.new.held ≡ option_map (λ held. held ++ answer.line) done.sink.old.held → OnFound r (BuildCalls name out cert report how.Exact done.heard) (Ok answer) → LeavesExactReject wad name out files stand done.sink
+    on : (r : Result LocatedMap Status) (answer : Answer) → found_of wad name files ≡ r → stand ≡ put_outputs files answer.writes → done.sink.new.held ≡ option_map (λ held. held ++ answer.line) done.sink.old.held → OnFound r (BuildCalls name out cert report how.Exact done.heard) (Ok answer) → LeavesExactReject wad name out files stand done.sink
     on (Err s) answer is left said h = absurd cc
     on (Ok found) answer is left said h = exact_left wad name out cert report files stand done.heard done.sink found answer apart h left is other said
 
@@ -329,7 +329,7 @@ pub builds_leave_one_wad : BuildsLeaveOneWad
 builds_leave_one_wad words others wad name out cert report other_cert other_report workers other_workers method files stand other_stand asked other_asked one other =
     let a = was_answered words files stand one in
     let b = was_answered others files other_stand other in
-    let same = on (found_of wad name files) a.answer b.answer a.stands b.stands (subst (λ r. AnswersAsked r files one.heard (Ok a.answer)) asked a.called) (subst (λ r. AnswersAsked r files other.heard (Ok b.answer)) other_asked b.called) in
+    let same = on (found_of wad name files) a.answer b.answer a.stands b.stands (subst (λ r. AnswersOrder r files one.heard (Ok a.answer)) asked a.called) (subst (λ r. AnswersOrder r files other.heard (Ok b.answer)) other_asked b.called) in
     (same.0, (a.answer.line, a.said, b.said ∙ ap (λ (l : List ℕ). option_map (λ held. held ++ l) other.sink.old.held) (sym same.1)))
   where
     apart : has_twice (wad.file ∷ out ∷ (given cert ++ given report)) ≡ false
@@ -338,7 +338,7 @@ builds_leave_one_wad words others wad name out cert report other_cert other_repo
     other_apart : has_twice (wad.file ∷ out ∷ (given other_cert ++ given other_report)) ≡ false
     other_apart = of_words others (order.Build wad name out other_cert other_report other_workers method) other_asked
 
-    on : (r : Result LocatedMap Status) (x y : Answer) → stand ≡ put_all files x.writes → other_stand ≡ put_all files y.writes
+    on : (r : Result LocatedMap Status) (x y : Answer) → stand ≡ put_outputs files x.writes → other_stand ≡ put_outputs files y.writes
         → OnFound r (BuildCalls name out cert report method one.heard) (Ok x) → OnFound r (BuildCalls name out other_cert other_report method other.heard) (Ok y) → (stand out ≡ other_stand out) × (x.line ≡ y.line)
     on (Err s) x y left other_left p q = absurd cc
     on (Ok found) x y left other_left p q = (

@@ -9,19 +9,19 @@ use Rattle.std.proofs.lemmas.List.{length-map}
 use Rattle.sight_names.specs.declared.faults.Lump.TheVariants.{Linedefs, Sidedefs, Vertexes, Sectors}
 use Rattle.wad_dir.specs.declared.parts.Kind.{Kind}
 use Rattle.wad_dir.specs.declared.parts.MapSpot.{MapSpot}
-use Rattle.wad_dir.specs.Kept.{IsKept, reject_then, spot_then}
-use Rattle.wad_dir.specs.Map.{begins_with_textmap, is_run_name, key_of, name_of, same_name, shifted, spot_of}
+use Rattle.wad_dir.specs.Kept.{IsMapKept, reject_then, spot_then}
+use Rattle.wad_dir.specs.Map.{begins_with_textmap, is_run_name, key_of, lump_name, same_name, shifted, spot_of}
 use Rattle.wad_dir.specs.Print.{reject_lump, with_bytes, with_reject}
-use Rattle.wad_dir.specs.Wad.{WadFile, WadLump, names_of}
+use Rattle.wad_dir.specs.Wad.{WadFile, WadLump, names_of_lumps}
 use Rattle.wad_dir.proofs.Inserted.{padded, place_bound}
 use Rattle.wad_dir.proofs.Moved.{further, spot_stays}
 use Rattle.wad_dir.proofs.Rewritten.{get_before, get_other, kept, map_insert, sectors_within}
 use Rattle.wad_dir.proofs.Spots.{place, spot_parts}
 use Rattle.wad_dir.specs.declared.all_maps.parts.Change.{Change}
 use Rattle.wad_dir.specs.AllMaps.All.{HasInOrder, names_changed, with_all}
-use Rattle.wad_dir.specs.AllMaps.Maps.{maps_of}
-use Rattle.wad_dir.specs.AllMaps.Names.{word_of}
-use Rattle.wad_dir.specs.AllMaps.Spliced.{AreSpaced, piece, place_behind}
+use Rattle.wad_dir.specs.AllMaps.Maps.{maps_in_names}
+use Rattle.wad_dir.specs.AllMaps.Names.{name_before_nul}
+use Rattle.wad_dir.specs.AllMaps.Spliced.{AreSpaced, piece, place_behind_reject}
 use Rattle.wad_dir.proofs.AllMaps.Merging.{AreFurther, IsStep, changed_at, file, further_start, lump_names, spaced_lumps, step_of}
 use Rattle.wad_dir.proofs.AllMaps.Pieces.{shift_of, then_behind}
 use Rattle.wad_dir.proofs.AllMaps.Spacing.{no_reject, run_before, run_of}
@@ -29,9 +29,9 @@ use Rattle.wad_dir.proofs.AllMaps.Spacing.{no_reject, run_before, run_of}
 -- the name finds a map in both WADs, of one format, a text in both or in none, and its four lumps have the same names and bytes in both
 pub record HasSameMap (old new : WadFile) (name : List ℕ) : Type 0 where
   pub was : MapSpot
-  pub was_found : spot_of (names_of old) name ≡ Ok was
+  pub was_found : spot_of (names_of_lumps old) name ≡ Ok was
   pub spot : MapSpot
-  pub found : spot_of (names_of new) name ≡ Ok spot
+  pub found : spot_of (names_of_lumps new) name ≡ Ok spot
   pub format : spot.format ≡ was.format
   pub text : spot.text ≡ was.text
   pub linedefs : slice_get new.lumps spot.linedefs ≡ slice_get old.lumps was.linedefs
@@ -52,12 +52,12 @@ pub shift_more : (o : Option ℕ) (k : ℕ) → k ≤ shift_of o k
 shift_more (Some r) k = omega arith
 shift_more None k = omega arith
 
-pub after_step : (kind : Kind) (lumps front : List WadLump) (k done : ℕ) (c : Change) (cs : List Change) (s : IsStep kind lumps front k done c cs) → with_all (file kind (front ++ drop done lumps)) (c ∷ cs) ≡ with_all (file kind ((front ++ piece lumps done s.spot c.table) ++ drop (place_behind s.spot) lumps)) cs
+pub after_step : (kind : Kind) (lumps front : List WadLump) (k done : ℕ) (c : Change) (cs : List Change) (s : IsStep kind lumps front k done c cs) → with_all (file kind (front ++ drop done lumps)) (c ∷ cs) ≡ with_all (file kind ((front ++ piece lumps done s.spot c.table) ++ drop (place_behind_reject s.spot) lumps)) cs
 after_step kind lumps front k done c cs s = ap (λ (w : WadFile). with_all w cs) (changed_at (file kind (front ++ drop done lumps)) c (further k s.spot) s.found ∙ s.put)
 
 -- what holds of all that lies before a bound, and lasts where a map behind the bound gets another REJECT, holds when all changes are made
 module _ (Holds : WadFile → ℕ → Type 0)
-    (stays : (w : WadFile) (bound : ℕ) (name : List ℕ) (spot : MapSpot) (table : List ℕ) → Holds w bound → spot_of (names_of w) name ≡ Ok spot → is_run_name name ≡ false → bound ≤ spot.marker → spot.marker < reject_then spot → Holds (with_reject w spot table) bound)
+    (stays : (w : WadFile) (bound : ℕ) (name : List ℕ) (spot : MapSpot) (table : List ℕ) → Holds w bound → spot_of (names_of_lumps w) name ≡ Ok spot → is_run_name name ≡ false → bound ≤ spot.marker → spot.marker < reject_then spot → Holds (with_reject w spot table) bound)
     (grows : (w : WadFile) (b c : ℕ) → b ≤ c → Holds w b → Holds w c) where
   pub through : (kind : Kind) (lumps front : List WadLump) (k done : ℕ) (cs : List Change) → AreSpaced (lump_names lumps) (length lumps) done cs → length front ≡ k + done → AreFurther (lump_names lumps) (lump_names (front ++ drop done lumps)) k cs → Holds (file kind (front ++ drop done lumps)) (k + done) → (end : ℕ) × Holds (with_all (file kind (front ++ drop done lumps)) cs) end
   through kind lumps front k done [] spaced len h holds = (k + done, holds)
@@ -66,11 +66,11 @@ module _ (Holds : WadFile → ℕ → Type 0)
       let old : WadFile = file kind (front ++ drop done lumps) in
       let begins : done ≤ s.spot.marker = s.begins in
       let inside : s.spot.marker < reject_then s.spot = s.inside in
-      let ends : reject_then s.spot ≤ place_behind s.spot = then_behind s.spot in
+      let ends : reject_then s.spot ≤ place_behind_reject s.spot = then_behind s.spot in
       let more : k ≤ shift_of s.spot.reject k = shift_more s.spot.reject k in
       let still : Holds (with_reject old (further k s.spot) c.table) (k + done) = stays old (k + done) c.name (further k s.spot) c.table holds s.found s.other (omega (arith, begins)) (inside_then k s.spot inside) in
-      let there : Holds (file kind ((front ++ piece lumps done s.spot c.table) ++ drop (place_behind s.spot) lumps)) (k + done) = subst (λ (w : WadFile). Holds w (k + done)) s.put still in
-      let rest = through kind lumps (front ++ piece lumps done s.spot c.table) (shift_of s.spot.reject k) (place_behind s.spot) cs s.spaced s.len s.later (grows _ (k + done) (shift_of s.spot.reject k + place_behind s.spot) (omega (arith, begins, inside, ends, more)) there) in
+      let there : Holds (file kind ((front ++ piece lumps done s.spot c.table) ++ drop (place_behind_reject s.spot) lumps)) (k + done) = subst (λ (w : WadFile). Holds w (k + done)) s.put still in
+      let rest = through kind lumps (front ++ piece lumps done s.spot c.table) (shift_of s.spot.reject k) (place_behind_reject s.spot) cs s.spaced s.len s.later (grows _ (k + done) (shift_of s.spot.reject k + place_behind_reject s.spot) (omega (arith, begins, inside, ends, more)) there) in
       (rest.0, subst (λ (w : WadFile). Holds w rest.0) (sym (after_step kind lumps front k done c cs s)) rest.1)
 
 -- ---- where the lumps of a map stand
@@ -95,10 +95,10 @@ in_run ns name spot found =
     let text : Bool = begins_with_textmap (drop (p.marker + 1) ns) in
     let below : (x : List ℕ) (k : ℕ) → place x run ≡ Some k → k < length run = (λ x k e. let h = place_bound (λ n. same_name n x) run 0 k e in omega (arith, h.1)) in
     subst (λ (y : MapSpot). InRun ns y) (sym p.is) (record {
-      linedefs = among p.marker (length run) p.l (below (name_of text Linedefs) p.l p.linedefs);
-      sidedefs = among p.marker (length run) p.s (below (name_of text Sidedefs) p.s p.sidedefs);
-      vertexes = among p.marker (length run) p.v (below (name_of text Vertexes) p.v p.vertexes);
-      sectors = among p.marker (length run) p.c (below (name_of text Sectors) p.c p.sectors);
+      linedefs = among p.marker (length run) p.l (below (lump_name text Linedefs) p.l p.linedefs);
+      sidedefs = among p.marker (length run) p.s (below (lump_name text Sidedefs) p.s p.sidedefs);
+      vertexes = among p.marker (length run) p.v (below (lump_name text Vertexes) p.v p.vertexes);
+      sectors = among p.marker (length run) p.c (below (lump_name text Sectors) p.c p.sectors);
     })
 
 -- ---- a map behind it gets another REJECT
@@ -109,24 +109,24 @@ record IsStill (first w : WadFile) (name : List ℕ) (bound : ℕ) : Type 0 wher
   marker : same.spot.marker < bound
   other : is_run_name name ≡ false
 
-module _ (first w : WadFile) (a : List ℕ) (bound : ℕ) (name : List ℕ) (spot : MapSpot) (table : List ℕ) (s : IsStill first w a bound) (found : spot_of (names_of w) name ≡ Ok spot) (other : is_run_name name ≡ false) (behind : bound ≤ spot.marker) (inside : spot.marker < reject_then spot) where
+module _ (first w : WadFile) (a : List ℕ) (bound : ℕ) (name : List ℕ) (spot : MapSpot) (table : List ℕ) (s : IsStill first w a bound) (found : spot_of (names_of_lumps w) name ≡ Ok spot) (other : is_run_name name ≡ false) (behind : bound ≤ spot.marker) (inside : spot.marker < reject_then spot) where
   abbrev at : MapSpot
   at = s.same.spot
 
   -- all its lumps lie before the marker of that map
-  run_ends : at.marker + 1 + length (run_of (names_of w) at.marker) ≤ spot.marker
+  run_ends : at.marker + 1 + length (run_of (names_of_lumps w) at.marker) ≤ spot.marker
   run_ends =
       let marker : at.marker < bound = s.marker in
-      run_before (names_of w) a name at spot s.same.found found other (omega (arith, marker, behind))
+      run_before (names_of_lumps w) a name at spot s.same.found found other (omega (arith, marker, behind))
 
-  before : (k : ℕ) → IsAmong at.marker (length (run_of (names_of w) at.marker)) k → k < spot.marker
+  before : (k : ℕ) → IsAmong at.marker (length (run_of (names_of_lumps w) at.marker)) k → k < spot.marker
   before k h = let run = run_ends in let lt = h.1 in omega (arith, run, lt)
 
-  places : InRun (names_of w) at
-  places = in_run (names_of w) a at s.same.found
+  places : InRun (names_of_lumps w) at
+  places = in_run (names_of_lumps w) a at s.same.found
 
   -- where the lumps before that marker are as they were, and the name finds the same spot
-  still : (new : WadFile) → spot_of (names_of new) a ≡ Ok at → ((k : ℕ) → k < spot.marker → slice_get new.lumps k ≡ slice_get w.lumps k) → IsStill first new a bound
+  still : (new : WadFile) → spot_of (names_of_lumps new) a ≡ Ok at → ((k : ℕ) → k < spot.marker → slice_get new.lumps k ≡ slice_get w.lumps k) → IsStill first new a bound
   still new there as_before = record {
     same = record {
       was = s.same.was;
@@ -147,17 +147,17 @@ module _ (first w : WadFile) (a : List ℕ) (bound : ℕ) (name : List ℕ) (spo
   replaced : (r : ℕ) → spot.marker < r → IsStill first (record { kind = w.kind; lumps = set w.lumps r (with_bytes (get_or w.lumps r (reject_lump table)) table) }) a bound
   replaced r lt =
       let new : List WadLump = set w.lumps r (with_bytes (get_or w.lumps r (reject_lump table)) table) in
-      let names : map (λ (l : WadLump). l.name) new ≡ names_of w = map-set_same (λ (l : WadLump). l.name) w.lumps r (with_bytes (get_or w.lumps r (reject_lump table)) table) (reject_lump table) refl in
+      let names : map (λ (l : WadLump). l.name) new ≡ names_of_lumps w = map-set_same (λ (l : WadLump). l.name) w.lumps r (with_bytes (get_or w.lumps r (reject_lump table)) table) (reject_lump table) refl in
       still (record { kind = w.kind; lumps = new }) (ap (λ (ns : List (List ℕ)). spot_of ns a) names ∙ s.same.found)
       (λ k below. get_other w.lumps r k (with_bytes (get_or w.lumps r (reject_lump table)) table) (λ e. omega (arith, e, below, lt)))
 
   put_in : spot.marker < spot.sectors + 1 → IsStill first (record { kind = w.kind; lumps = insert w.lumps (spot.sectors + 1) (reject_lump table) }) a bound
   put_in lt =
-      let long : length (names_of w) ≡ length w.lumps = length-map w.lumps (λ (l : WadLump). l.name) in
-      let within : spot.sectors < length (names_of w) = sectors_within (names_of w) name spot (spot_parts (names_of w) name spot found) in
-      let names : map (λ (l : WadLump). l.name) (insert w.lumps (spot.sectors + 1) (reject_lump table)) ≡ insert (names_of w) (spot.sectors + 1) padded = map_insert (λ (l : WadLump). l.name) w.lumps (spot.sectors + 1) (reject_lump table) in
+      let long : length (names_of_lumps w) ≡ length w.lumps = length-map w.lumps (λ (l : WadLump). l.name) in
+      let within : spot.sectors < length (names_of_lumps w) = sectors_within (names_of_lumps w) name spot (spot_parts (names_of_lumps w) name spot found) in
+      let names : map (λ (l : WadLump). l.name) (insert w.lumps (spot.sectors + 1) (reject_lump table)) ≡ insert (names_of_lumps w) (spot.sectors + 1) padded = map_insert (λ (l : WadLump). l.name) w.lumps (spot.sectors + 1) (reject_lump table) in
       let run = run_ends in
-      let stays : spot_of (insert (names_of w) (spot.sectors + 1) padded) a ≡ Ok at = spot_stays (names_of w) (spot.sectors + 1) a padded at (no_reject a s.other) s.same.found (omega (arith, run, lt)) (omega (arith, within)) in
+      let stays : spot_of (insert (names_of_lumps w) (spot.sectors + 1) padded) a ≡ Ok at = spot_stays (names_of_lumps w) (spot.sectors + 1) a padded at (no_reject a s.other) s.same.found (omega (arith, run, lt)) (omega (arith, within)) in
       still (record { kind = w.kind; lumps = insert w.lumps (spot.sectors + 1) (reject_lump table) }) (ap (λ (ns : List (List ℕ)). spot_of ns a) names ∙ stays)
       (λ k below. get_before w.lumps (spot.sectors + 1) k (reject_lump table) (omega (arith, within, long)) (omega (arith, below, lt)))
 
@@ -198,14 +198,14 @@ module _ (kind : Kind) (lumps front : List WadLump) (k done : ℕ) (c : Change) 
   in_first : (i : ℕ) → IsAmong s.spot.marker (length (run_of (lump_names lumps) s.spot.marker)) i → slice_get (front ++ drop done lumps) (k + i) ≡ slice_get lumps i
   in_first i h = let begins : done ≤ s.spot.marker = s.begins in let lt = h.0 in get_further front lumps k done i len (omega (arith, begins, lt))
 
-  still_by : IsStill (file kind lumps) (file kind ((front ++ piece lumps done s.spot c.table) ++ drop (place_behind s.spot) lumps)) c.name (shift_of s.spot.reject k + place_behind s.spot)
+  still_by : IsStill (file kind lumps) (file kind ((front ++ piece lumps done s.spot c.table) ++ drop (place_behind_reject s.spot) lumps)) c.name (shift_of s.spot.reject k + place_behind_reject s.spot)
   still_by =
-      let h : IsKept c.name there c.table old (with_reject old there c.table) = kept old c.name there c.table s.found (no_reject c.name s.other) in
+      let h : IsMapKept c.name there c.table old (with_reject old there c.table) = kept old c.name there c.table s.found (no_reject c.name s.other) in
       let run : InRun (lump_names lumps) s.spot = in_run (lump_names lumps) c.name s.spot s.first in
       let inside : s.spot.marker < reject_then s.spot = s.inside in
-      let ends : reject_then s.spot ≤ place_behind s.spot = then_behind s.spot in
+      let ends : reject_then s.spot ≤ place_behind_reject s.spot = then_behind s.spot in
       let more : k ≤ shift_of s.spot.reject k = shift_more s.spot.reject k in
-      subst (λ (w : WadFile). IsStill (file kind lumps) w c.name (shift_of s.spot.reject k + place_behind s.spot)) s.put (record {
+      subst (λ (w : WadFile). IsStill (file kind lumps) w c.name (shift_of s.spot.reject k + place_behind_reject s.spot)) s.put (record {
         same = record {
           was = s.spot;
           was_found = s.first;
@@ -234,10 +234,10 @@ maps_there kind lumps front k done (c ∷ cs) spaced len h =
     let s : IsStep kind lumps front k done c cs = step_of kind lumps front k done c cs spaced len h in
     let next : List WadLump = front ++ piece lumps done s.spot c.table in
     let back = sym (after_step kind lumps front k done c cs s) in
-    let here : HasSameMap (file kind lumps) (with_all (file kind (next ++ drop (place_behind s.spot) lumps)) cs) c.name = stays_through (file kind lumps) kind lumps next (shift_of s.spot.reject k) (place_behind s.spot) cs c.name s.spaced s.len s.later (still_by kind lumps front k done c cs s len) in
-    let others : AllByRecursion (λ (a : Change). HasSameMap (file kind lumps) (with_all (file kind (next ++ drop (place_behind s.spot) lumps)) cs) a.name) cs = maps_there kind lumps next (shift_of s.spot.reject k) (place_behind s.spot) cs s.spaced s.len s.later in
+    let here : HasSameMap (file kind lumps) (with_all (file kind (next ++ drop (place_behind_reject s.spot) lumps)) cs) c.name = stays_through (file kind lumps) kind lumps next (shift_of s.spot.reject k) (place_behind_reject s.spot) cs c.name s.spaced s.len s.later (still_by kind lumps front k done c cs s len) in
+    let others : AllByRecursion (λ (a : Change). HasSameMap (file kind lumps) (with_all (file kind (next ++ drop (place_behind_reject s.spot) lumps)) cs) a.name) cs = maps_there kind lumps next (shift_of s.spot.reject k) (place_behind_reject s.spot) cs s.spaced s.len s.later in
     (subst (λ (w : WadFile). HasSameMap (file kind lumps) w c.name) back here, subst (λ (w : WadFile). AllByRecursion (λ (a : Change). HasSameMap (file kind lumps) w a.name) cs) back others)
 
 -- each name that is changed finds the map there that it found before
-pub each_map_is_there : (w : WadFile) (cs : List Change) → HasInOrder (maps_of (names_of w)) (names_changed cs) → AllByRecursion (λ (c : Change). HasSameMap w (with_all w cs) c.name) cs
-each_map_is_there w cs among = maps_there w.kind w.lumps [] 0 0 cs (spaced_lumps w cs among) refl (further_start (names_of w) cs)
+pub each_map_is_there : (w : WadFile) (cs : List Change) → HasInOrder (maps_in_names (names_of_lumps w)) (names_changed cs) → AllByRecursion (λ (c : Change). HasSameMap w (with_all w cs) c.name) cs
+each_map_is_there w cs among = maps_there w.kind w.lumps [] 0 0 cs (spaced_lumps w cs among) refl (further_start (names_of_lumps w) cs)

@@ -10,7 +10,7 @@ use Rattle.map_picture.specs.declared.pair.Stop.{Stop}
 use Rattle.map_picture.specs.Bytes.{svg_of}
 use Rattle.map_picture.specs.declared.sheet.Subject.{Subject}
 use Rattle.map_picture.specs.declared.sheet.Subject.TheVariants as subject
-use Rattle.map_picture.specs.Picture.{NamedParts, Element, Entered, Stops, blind_picture, numbered, pair_faces, pair_picture, pair_rings, pair_tint, sight_elements, sight_picture}
+use Rattle.map_picture.specs.Picture.{NamedParts, Element, Entered, Stops, blind_picture, triangles_with_numbers, pair_faces, pair_picture, pair_rings, pair_tint, sight_elements, sight_picture}
 use Rattle.map_picture.specs.Laws.{HasNoLine, ShowsFaces, ShowsLines, TellsPair as TellsFaces}
 use Rattle.map_picture.proofs.Faced.{blind_faces, no_line_in_faces, pair_shown, sight_faces}
 use Rattle.map_picture.proofs.Ids.{no_line_entered, no_line_rings, no_line_sight, no_line_stops}
@@ -60,8 +60,8 @@ module _ (name : NamedParts) (m : Map) (pair : Pair) (g : MapGroups) where
   of_entered sector entered stops d same = record {
     picture = blind_picture name m g.groups g.triangles g.labels pair.a pair.b sector entered stops;
     is = ap (λ (x : Drawing). x.bytes) same;
-    lines = lines_shown name of_pair m (the_faces ++ Entered sector (numbered g.triangles entered) ∷ []) (Stops stops ∷ [] ++ rings)
-        (no_line_entered g.groups g.triangles g.labels pair.a pair.b sector (numbered g.triangles entered)) (no_line_stops m g.groups g.triangles g.labels pair.a pair.b stops);
+    lines = lines_shown name of_pair m (the_faces ++ Entered sector (triangles_with_numbers g.triangles entered) ∷ []) (Stops stops ∷ [] ++ rings)
+        (no_line_entered g.groups g.triangles g.labels pair.a pair.b sector (triangles_with_numbers g.triangles entered)) (no_line_stops m g.groups g.triangles g.labels pair.a pair.b stops);
     faces = blind_faces name m g.groups g.triangles g.labels pair.a pair.b sector entered stops;
   }
 

@@ -7,9 +7,9 @@ use Rattle.sight_names.specs.declared.names.Pair.{Pair}
 use Rattle.sight_names.specs.Table.{table_bit}
 use Rattle.reject_bits.specs.Parts.{Rejects, TableParts}
 use Rattle.cert_checker.specs.declared.verdict.Totals.{Totals}
-use Rattle.cert_checker.specs.Pairs.{AreTotals, all_pairs, either_set, one_if, pairs_in_row, set_in_row, set_pairs as either_pairs}
+use Rattle.cert_checker.specs.Pairs.{AreTotals, count_of_pairs, either_set, one_if, pairs_in_row, set_in_row, set_pairs as either_pairs}
 use Rattle.map_answers.specs.declared.counts.Counts.{Counts}
-use Rattle.map_answers.specs.Counts.{counts_with, is_set, pair_count, set_from, set_pairs}
+use Rattle.map_answers.specs.Counts.{counts_with, is_pair_set, pair_count, set_from, set_pairs}
 
 sum_same : (f g : ℕ → ℕ) (a n : ℕ) → ((i : ℕ) → a ≤ i → i < a + n → f i ≡ g i) → sum_by f (range_with_len a n) ≡ sum_by g (range_with_len a n)
 sum_same f g a zero h = refl
@@ -21,19 +21,19 @@ sum_same f g a (suc n) h =
 -- ---- what is set
 
 module _ (t : TableParts) (symmetric : (x y : ℕ) → x < t.n → y < t.n → Rejects t x y → Rejects t y x) where
-  one_bit : (a b : ℕ) → a < t.n → b < t.n → one_if (either_set t a b) ≡ cond (is_set t a b) 1 0
-  one_bit a b p q = by (is_set t a b) (is_set t b a) refl refl
+  one_bit : (a b : ℕ) → a < t.n → b < t.n → one_if (either_set t a b) ≡ cond (is_pair_set t a b) 1 0
+  one_bit a b p q = by (is_pair_set t a b) (is_pair_set t b a) refl refl
     where
-      by : (x y : Bool) → is_set t a b ≡ x → is_set t b a ≡ y → one_if (x || y) ≡ cond x 1 0
+      by : (x y : Bool) → is_pair_set t a b ≡ x → is_pair_set t b a ≡ y → one_if (x || y) ≡ cond x 1 0
       by true y e f = refl
       by false false e f = refl
       by false true e f =
-          let back : is_set t a b ≡ true = (Decides-eqb (table_bit t.bytes (a * t.n + b)) 1).1 (symmetric b a q p ((Decides-eqb (table_bit t.bytes (b * t.n + a)) 1).0 f)) in
+          let back : is_pair_set t a b ≡ true = (Decides-eqb (table_bit t.bytes (a * t.n + b)) 1).1 (symmetric b a q p ((Decides-eqb (table_bit t.bytes (b * t.n + a)) 1).0 f)) in
           absurd cc
 
   row_same : (a : ℕ) → a < t.n → set_in_row t t.n a ≡ set_from t a
   unfolding set_from
-  row_same a lt = sum-map (λ b. one_if (either_set t a b)) (range_with_len a (t.n - a)) ∙ sum_same (λ b. one_if (either_set t a b)) (λ b. cond (is_set t a b) 1 0) a (t.n - a) (λ b l h. one_bit a b lt (omega (arith, h, lt, l)))
+  row_same a lt = sum-map (λ b. one_if (either_set t a b)) (range_with_len a (t.n - a)) ∙ sum_same (λ b. one_if (either_set t a b)) (λ b. cond (is_pair_set t a b) 1 0) a (t.n - a) (λ b l h. one_bit a b lt (omega (arith, h, lt, l)))
 
   set_same : either_pairs t t.n ≡ set_pairs t
   unfolding set_pairs
@@ -53,7 +53,7 @@ triangle n a (suc k) e =
 half : (x s : ℕ) → 2 * s ≡ x → x / 2 ≡ s
 half x s e = omega (arith, e)
 
-all_same : (n : ℕ) → all_pairs n ≡ pair_count n
+all_same : (n : ℕ) → count_of_pairs n ≡ pair_count n
 all_same n =
     let sums = sum-map (pairs_in_row n) (range_with_len 0 n) in
     let twice = triangle n 0 n (omega arith) in

@@ -14,9 +14,9 @@ use Rattle.sight_names.specs.Ray.{IsSightRay}
 use Rattle.sight_names.specs.Sound.{IsSound}
 use Rattle.shelf_io.specs.Shelf.{Files, ShelfState}
 use Rattle.shelf_io.specs.Sink.{SinkState}
-use Rattle.wad_dir.specs.AllMaps.Names.{word_of}
+use Rattle.wad_dir.specs.AllMaps.Names.{name_before_nul}
 use Rattle.wad_dir.specs.Map.{spot_of}
-use Rattle.wad_dir.specs.Wad.{WadFile, names_of}
+use Rattle.wad_dir.specs.Wad.{WadFile, names_of_lumps}
 use Rattle.order_words.specs.declared.order.Order.TheVariants as order
 use Rattle.order_words.specs.declared.order.ReportFile.{ReportFile}
 use Rattle.order_words.specs.declared.order.Source.{Source}
@@ -37,13 +37,13 @@ use Rattle.table_verdicts.specs.declared.verdict.Verdict.{Verdict}
 use Rattle.table_verdicts.specs.declared.verdict.Verdict.TheVariants as verdict
 use Rattle.whole_wad.specs.Rejects.{reject_named}
 use Rattle.table_verdicts.specs.Tallies.{all_right, count_of, is_short, is_wrong, tally_of}
-use Rattle.table_verdicts.specs.Verdict.{AreFindings, HasFirstWrong, IsVerdictOn, answer_of}
+use Rattle.table_verdicts.specs.Verdict.{AreRejectFindings, HasFirstWrong, IsRejectVerdict, answer_of}
 use Rattle.table_compare.proofs.OneKind.{none_counted}
 use Rattle.sight_run.specs.All.{OnRead}
 use Rattle.sight_run.specs.Asked.{AskedMaps, asked_in}
-use Rattle.sight_run.specs.Heard.{Heard}
-use Rattle.sight_run.specs.Obeys.{AnswersAsked, IsAnswer}
-use Rattle.sight_run.specs.Run.{RunEnds, put_all}
+use Rattle.sight_run.specs.Heard.{ListenersHeard}
+use Rattle.sight_run.specs.Obeys.{AnswersOrder, IsAnswer}
+use Rattle.sight_run.specs.Run.{RunEnds, put_outputs}
 use Rattle.sight_run.specs.Verify.{MapsVerified, ShowsVerify}
 use Rattle.sight_run.specs.Words.{asked_of}
 use Rattle.sight_run.proofs.Round.{passes}
@@ -57,7 +57,7 @@ use Rattle.run_laws.proofs.Planned.{HasPlan}
 
 named_plan : (large : Bool) (w : WadFile) (name : List ℕ) (m : Map) → map_named large w name ≡ Ok m → HasPlan m
 unfolding map_named
-named_plan large w name m is = let b = passes (of_spot (spot_of (names_of w) name)) (λ s. map_at large w s) m is in map_at_plan large w b.x m b.rest
+named_plan large w name m is = let b = passes (of_spot (spot_of (names_of_lumps w) name)) (λ s. map_at large w s) m is in map_at_plan large w b.x m b.rest
 
 module _ (m : Map) (plan : HasPlan m) (reject : List ℕ) where
   first_ray : (first : FirstWrong) → IsAnswerFor m Full first.pair (answer_of first.by) → (ray : Ray) → first.by ≡ shown.Ray ray → IsSound m → IsSightRay m ray first.pair.a first.pair.b
@@ -69,10 +69,10 @@ module _ (m : Map) (plan : HasPlan m) (reject : List ℕ) where
   tells_first (Some first) h = record { is_first = h.is_first; sight = h.sight; ray = first_ray first h.sight }
   tells_first None h = λ a b la lb set sees. h a b la lb (set, sees)
 
-  blind_where_none : (findings : Findings) → AreFindings m reject findings → findings.wrong ≡ 0 → IsBlindWhereSet m reject
+  blind_where_none : (findings : Findings) → AreRejectFindings m reject findings → findings.wrong ≡ 0 → IsBlindWhereSet m reject
   blind_where_none findings h none a b la lb set sees = none_counted m.sectors _ findings.wrong h.wrong none a b la lb (set, sees)
 
-  tells_bits : (findings : Findings) → AreFindings m reject findings → TellsBits m reject findings
+  tells_bits : (findings : Findings) → AreRejectFindings m reject findings → TellsBits m reject findings
   tells_bits findings h = record {
     enough = h.enough;
     faces = h.faces;
@@ -82,12 +82,12 @@ module _ (m : Map) (plan : HasPlan m) (reject : List ℕ) where
     first = tells_first findings.first h.first;
   }
 
-  tells_of_map : (said : Result Verdict Status) → IsVerdictOn (Ok m) reject said → TellsReject (Ok m) reject said
+  tells_of_map : (said : Result Verdict Status) → IsRejectVerdict (Ok m) reject said → TellsReject (Ok m) reject said
   tells_of_map (Ok (verdict.Short found expected)) h = h
   tells_of_map (Ok (verdict.Judged findings)) h = tells_bits findings h
   tells_of_map (Err refusal) h = λ closed. no_flaw m refusal closed h.flaw
 
-tells_of : (large : Bool) (w : WadFile) (name reject : List ℕ) (read : Result Map Status) (said : Result Verdict Status) → map_named large w name ≡ read → IsVerdictOn read reject said → TellsReject read reject said
+tells_of : (large : Bool) (w : WadFile) (name reject : List ℕ) (read : Result Map Status) (said : Result Verdict Status) → map_named large w name ≡ read → IsRejectVerdict read reject said → TellsReject read reject said
 tells_of large w name reject (Ok m) said is h = tells_of_map m (named_plan large w name m is) reject said h
 tells_of large w name reject (Err refusal) said is h = h
 
@@ -110,7 +110,7 @@ none_of test (v ∷ vs) e =
     rest : (a b : ℕ) → a + b ≡ 0 → b ≡ 0
     rest a b e = omega arith
 
-right_by : (m : Map) (plan : HasPlan m) (reject : List ℕ) (said : Result Verdict Status) → IsVerdictOn (Ok m) reject said → is_wrong said ≡ false → is_short said ≡ false → IsOk said → IsRightReject (Ok m) reject
+right_by : (m : Map) (plan : HasPlan m) (reject : List ℕ) (said : Result Verdict Status) → IsRejectVerdict (Ok m) reject said → is_wrong said ≡ false → is_short said ≡ false → IsOk said → IsRightReject (Ok m) reject
 right_by m plan reject (Ok (verdict.Short found expected)) h wrong short ok = absurd cc
 right_by m plan reject (Ok (verdict.Judged findings)) h wrong short ok = record { m = m; is_read = refl; enough = h.enough; blind = blind_where_none m plan reject findings h (none findings.wrong wrong) }
   where
@@ -122,7 +122,7 @@ right_by m plan reject (Ok (verdict.Judged findings)) h wrong short ok = record 
         told false h = sym h
 right_by m plan reject (Err refusal) h wrong short ok = absurd cc
 
-right_of : (large : Bool) (w : WadFile) (name reject : List ℕ) (read : Result Map Status) (said : Result Verdict Status) → map_named large w name ≡ read → IsVerdictOn read reject said → is_wrong said ≡ false → is_short said ≡ false → IsOk said → IsRightReject read reject
+right_of : (large : Bool) (w : WadFile) (name reject : List ℕ) (read : Result Map Status) (said : Result Verdict Status) → map_named large w name ≡ read → IsRejectVerdict read reject said → is_wrong said ≡ false → is_short said ≡ false → IsOk said → IsRightReject read reject
 right_of large w name reject (Ok m) said is h wrong short ok = right_by m (named_plan large w name m is) reject said h wrong short ok
 right_of large w name reject (Err refusal) said is h wrong short ok = absurd (refused said h ok)
   where
@@ -131,19 +131,19 @@ right_of large w name reject (Err refusal) said is h wrong short ok = absurd (re
     refused (Err s) e ok = absurd cc
 
 abbrev SaysOf : WadFile → Bool → MapVerdict → Type 0
-SaysOf w large v = IsVerdictOn (map_named large w (word_of v.name)) (reject_named w (word_of v.name)) v.said
+SaysOf w large v = IsRejectVerdict (map_named large w (name_before_nul v.name)) (reject_named w (name_before_nul v.name)) v.said
 
 all_blind : (large : Bool) (w : WadFile) (verdicts : List MapVerdict) → AllByRecursion (SaysOf w large) verdicts → AreNone is_wrong verdicts → AreNone is_short verdicts
-    → AllByRecursion (λ (v : MapVerdict). IsOk v.said → IsRightReject (map_named large w (word_of v.name)) (reject_named w (word_of v.name))) verdicts
+    → AllByRecursion (λ (v : MapVerdict). IsOk v.said → IsRightReject (map_named large w (name_before_nul v.name)) (reject_named w (name_before_nul v.name))) verdicts
 unfolding AreNone
 all_blind large w [] says wrong short = tt
 all_blind large w (v ∷ vs) says wrong short = (
-  (λ ok. right_of large w (word_of v.name) (reject_named w (word_of v.name)) (map_named large w (word_of v.name)) v.said refl says.0 wrong.0 short.0 ok),
+  (λ ok. right_of large w (name_before_nul v.name) (reject_named w (name_before_nul v.name)) (map_named large w (name_before_nul v.name)) v.said refl says.0 wrong.0 short.0 ok),
   all_blind large w vs says.1 wrong.1 short.1,
 )
 
 all_are_right : (large : Bool) (w : WadFile) (verdicts : List MapVerdict) → AllByRecursion (SaysOf w large) verdicts → all_right (tally_of verdicts) ≡ true
-    → AllByRecursion (λ (v : MapVerdict). IsOk v.said → IsRightReject (map_named large w (word_of v.name)) (reject_named w (word_of v.name))) verdicts
+    → AllByRecursion (λ (v : MapVerdict). IsOk v.said → IsRightReject (map_named large w (name_before_nul v.name)) (reject_named w (name_before_nul v.name))) verdicts
 all_are_right large w verdicts says right =
     let wrong : count_of is_wrong verdicts ≡ 0 = is_told_same (count_of is_wrong verdicts) 0 (first_true (count_of is_wrong verdicts == 0) (count_of is_short verdicts == 0) right) in
     let short : count_of is_short verdicts ≡ 0 = is_told_same (count_of is_short verdicts) 0 (second_true (count_of is_wrong verdicts == 0) (count_of is_short verdicts == 0) right) in
@@ -152,32 +152,32 @@ all_are_right large w verdicts says right =
 -- ---- the run
 
 -- the answer that a run gave which did what it is asked
-record EndsTold (words : List (List ℕ)) (files stand : Files) (heard : Heard) (sinks : Sinks) (right : Bool) : Type 0 where
+record EndsTold (words : List (List ℕ)) (files stand : Files) (heard : ListenersHeard) (sinks : Sinks) (right : Bool) : Type 0 where
   answer : Answer
   called : IsAnswer words files heard (Ok answer)
   right_is : answer.right ≡ right
-  stands : stand ≡ put_all files answer.writes
+  stands : stand ≡ put_outputs files answer.writes
   said : sinks.new.held ≡ option_map (λ held. held ++ answer.line) sinks.old.held
 
-ends_told : (words : List (List ℕ)) (files stand : Files) (heard : Heard) (before after : ShelfState) (sinks : Sinks) (right : Bool) → RunEnds words files heard before after sinks.old sinks.new (done_as right) → after.files ≡ Some stand
+ends_told : (words : List (List ℕ)) (files stand : Files) (heard : ListenersHeard) (before after : ShelfState) (sinks : Sinks) (right : Bool) → RunEnds words files heard before after sinks.old sinks.new (done_as right) → after.files ≡ Some stand
     → EndsTold words files stand heard sinks right
 ends_told words files stand heard before after sinks true h e = record {
   answer = h.ends.answer;
   called = h.ends.called.called;
   right_is = h.ends.right_is;
-  stands = some_is_same stand (put_all files h.ends.answer.writes) (sym e ∙ h.ends.stands);
+  stands = some_is_same stand (put_outputs files h.ends.answer.writes) (sym e ∙ h.ends.stands);
   said = h.said ∙ ap (λ (l : List ℕ). option_map (λ held. held ++ l) sinks.old.held) h.ends.line_is;
 }
 ends_told words files stand heard before after sinks false h e = record {
   answer = h.ends.answer;
   called = h.ends.called.called;
   right_is = h.ends.right_is;
-  stands = some_is_same stand (put_all files h.ends.answer.writes) (sym e ∙ h.ends.stands);
+  stands = some_is_same stand (put_outputs files h.ends.answer.writes) (sym e ∙ h.ends.stands);
   said = h.said ∙ ap (λ (l : List ℕ). option_map (λ held. held ++ l) sinks.old.held) h.ends.line_is;
 }
 
 module _ (wad : Source) (only : Option (List (List ℕ))) (report : Option ReportFile) (files stand : Files) (sink : Sinks) (right : Bool) where
-  verdicts_shown : (asked : AskedMaps) (answer : Answer) → asked_in wad.file only files ≡ Ok asked → ShowsVerify report wad.large asked answer → answer.right ≡ right → stand ≡ put_all files answer.writes
+  verdicts_shown : (asked : AskedMaps) (answer : Answer) → asked_in wad.file only files ≡ Ok asked → ShowsVerify report wad.large asked answer → answer.right ≡ right → stand ≡ put_outputs files answer.writes
       → sink.new.held ≡ option_map (λ held. held ++ answer.line) sink.old.held → TellsRejects wad only report files stand sink right
   verdicts_shown asked answer e q is stands said =
       let right_is : right ≡ all_right (tally_of q.verdicts) = sym is ∙ ap (λ (a : Answer). a.right) q.is in
@@ -186,15 +186,15 @@ module _ (wad : Source) (only : Option (List (List ℕ))) (report : Option Repor
         are_asked = e;
         verdicts = q.verdicts;
         each = q.are.each;
-        tells = all_so (SaysOf asked.wad wad.large) (λ (v : MapVerdict). TellsReject (map_named wad.large asked.wad (word_of v.name)) (reject_named asked.wad (word_of v.name)) v.said) q.verdicts
-            (λ v h. tells_of wad.large asked.wad (word_of v.name) (reject_named asked.wad (word_of v.name)) (map_named wad.large asked.wad (word_of v.name)) v.said refl h) q.are.says;
+        tells = all_so (SaysOf asked.wad wad.large) (λ (v : MapVerdict). TellsReject (map_named wad.large asked.wad (name_before_nul v.name)) (reject_named asked.wad (name_before_nul v.name)) v.said) q.verdicts
+            (λ v h. tells_of wad.large asked.wad (name_before_nul v.name) (reject_named asked.wad (name_before_nul v.name)) (map_named wad.large asked.wad (name_before_nul v.name)) v.said refl h) q.are.says;
         said = said ∙ ap (λ (a : Answer). option_map (λ held. held ++ a.line) sink.old.held) q.is;
-        stands = stands ∙ ap (λ (a : Answer). put_all files a.writes) q.is;
+        stands = stands ∙ ap (λ (a : Answer). put_outputs files a.writes) q.is;
         right_is = right_is;
         blind = λ done. all_are_right wad.large asked.wad q.verdicts q.are.says (sym right_is ∙ done);
       }
 
-  of_asked : (r : Result AskedMaps Status) (answer : Answer) → asked_in wad.file only files ≡ r → OnRead r (MapsVerified report wad.large) (Ok answer) → answer.right ≡ right → stand ≡ put_all files answer.writes
+  of_asked : (r : Result AskedMaps Status) (answer : Answer) → asked_in wad.file only files ≡ r → OnRead r (MapsVerified report wad.large) (Ok answer) → answer.right ≡ right → stand ≡ put_outputs files answer.writes
       → sink.new.held ≡ option_map (λ held. held ++ answer.line) sink.old.held → TellsRejects wad only report files stand sink right
   of_asked (Ok asked) answer e q is stands said = verdicts_shown asked answer e q is stands said
   of_asked (Err s) answer e q is stands said = absurd cc
@@ -202,4 +202,4 @@ module _ (wad : Source) (only : Option (List (List ℕ))) (report : Option Repor
 pub verified_is_right : VerifiedIsRight
 verified_is_right words wad only report workers files stand right is_asked ended =
     let told = ends_told words files stand ended.heard ended.before ended.after ended.sink right ended.ends ended.left in
-    of_asked wad only report files stand ended.sink right (asked_in wad.file only files) told.answer refl (subst (λ r. AnswersAsked r files ended.heard (Ok told.answer)) is_asked told.called) told.right_is told.stands told.said
+    of_asked wad only report files stand ended.sink right (asked_in wad.file only files) told.answer refl (subst (λ r. AnswersOrder r files ended.heard (Ok told.answer)) is_asked told.called) told.right_is told.stands told.said

@@ -13,9 +13,9 @@ use Rattle.sight_names.specs.Map.{Map}
 use Rattle.sight_names.specs.Sees.{Sees}
 use Rattle.sight_names.specs.Table.{IsTable, Rejected}
 use Rattle.shelf_io.specs.Shelf.{Files, ShelfState}
-use Rattle.wad_dir.specs.AllMaps.Names.{word_of}
+use Rattle.wad_dir.specs.AllMaps.Names.{name_before_nul}
 use Rattle.wad_dir.specs.Map.{same_name}
-use Rattle.wad_dir.specs.Wad.{WadFile, names_of}
+use Rattle.wad_dir.specs.Wad.{WadFile, names_of_lumps}
 use Rattle.cert_format.specs.declared.cert_groups.cert.AnyCert.TheVariants.{One, Two}
 use Rattle.certificates.specs.declared.certificate.Certificate.{Certificate}
 use Rattle.certificates.specs.declared.certificate.Certificate.TheVariants.{Listing, Exact}
@@ -28,7 +28,7 @@ use Rattle.row_spelling.specs.declared.Spelling.{Spelling}
 use Rattle.order_words.specs.declared.order.Order.TheVariants as order
 use Rattle.order_words.specs.declared.order.ReportFile.{ReportFile}
 use Rattle.order_words.specs.declared.order.Source.{Source}
-use Rattle.order_words.specs.Words.{source_of}
+use Rattle.order_words.specs.Words.{wad_source}
 use Rattle.map_answers.specs.declared.sight_status.status.Status.TheVariants as status
 use Rattle.map_answers.specs.declared.counts.Counts.{Counts}
 use Rattle.map_answers.specs.Input.{LocatedMap}
@@ -36,12 +36,12 @@ use Rattle.whole_wad.specs.declared.outcomes.MapOutcome.{MapOutcome}
 use Rattle.whole_wad.specs.declared.tables.MapTable.{MapTable}
 use Rattle.whole_wad.specs.Built.{ask_of}
 use Rattle.whole_wad.specs.Rejects.{clear_table}
-use Rattle.whole_wad.specs.Report.{report_of}
+use Rattle.whole_wad.specs.Report.{outcomes_report}
 use Rattle.whole_wad.specs.Sizes.{sizes_of_map}
-use Rattle.sight_run.specs.All.{maps_in, tally_of, wad_in}
+use Rattle.sight_run.specs.All.{maps_in, tally_of_outcomes, wad_in}
 use Rattle.sight_run.specs.Build.{build_line}
-use Rattle.sight_run.specs.Check.{reject_of}
-use Rattle.sight_run.specs.Heard.{Heard}
+use Rattle.sight_run.specs.Check.{reject_bytes}
+use Rattle.sight_run.specs.Heard.{ListenersHeard}
 use Rattle.run_laws.specs.Laws.{HasTableLength, KeepsLumps, Sinks}
 use Rattle.sight_run.specs.Reading.{found_of}
 use Rattle.sight_run.specs.Run.{RunEnds}
@@ -60,7 +60,7 @@ pub record IsRightTable (m : Map) (table : List ℕ) (IsListed : ℕ → ℕ →
 
 -- A run of these words over these files ended with Done, as `run` promises of it, and left those files.
 pub record WasDone (words : List (List ℕ)) (files stand : Files) : Type 0 where
-  pub heard : Heard
+  pub heard : ListenersHeard
   pub before : ShelfState
   pub after : ShelfState
   pub sink : Sinks
@@ -84,7 +84,7 @@ pub record HasRightReject (wad : Source) (name cert : List ℕ) (files : Files) 
   pub stands : files cert ≡ Some bytes
   pub given : Certificate
   pub spelled : certificate_at (sizes_of_map found.map) bytes ≡ Ok given
-  pub right : IsRightTable found.map (reject_of found) (AreListed (listed_of given))
+  pub right : IsRightTable found.map (reject_bytes found) (AreListed (listed_of given))
 
 -- so it is where a `check` was done, in either spelling
 abbrev pub CheckedIsRight : Type 0
@@ -99,13 +99,13 @@ pub record LeavesRightReject (wad : Source) (name out : List ℕ) (method : Meth
   pub found : LocatedMap
   pub is_found : found_of wad name files ≡ Ok found
   pub new : LocatedMap
-  pub is_new : found_of (source_of wad.large out) name stand ≡ Ok new
+  pub is_new : found_of (wad_source wad.large out) name stand ≡ Ok new
   pub same : new.map ≡ found.map
   pub allowed : Budget
   pub is_allowed : IsBudgetOf found.map (ask_of method) allowed
-  pub right : IsRightTable found.map (reject_of new) (IsListedByGroups found.map allowed)
+  pub right : IsRightTable found.map (reject_bytes new) (IsListedByGroups found.map allowed)
   -- the bit of a listed pair is clear
-  pub clear : (a b : ℕ) → a < found.map.sectors → b < found.map.sectors → IsListedByGroups found.map allowed a b → ¬ Rejected found.map.sectors (reject_of new) a b
+  pub clear : (a b : ℕ) → a < found.map.sectors → b < found.map.sectors → IsListedByGroups found.map allowed a b → ¬ Rejected found.map.sectors (reject_bytes new) a b
   -- where every pair is decided, with a budget that is enough, and without any, no pair is listed: a bit is set exactly where the two
   -- don't see each other
   pub exact : (ask_of method ≡ Enough) ⊎ (ask_of method ≡ Full) → (a b : ℕ) → ¬ IsListedByGroups found.map allowed a b
@@ -122,11 +122,11 @@ pub record LeavesExactTable (wad : Source) (name out : List ℕ) (files stand : 
   pub found : LocatedMap
   pub is_found : found_of wad name files ≡ Ok found
   pub new : LocatedMap
-  pub is_new : found_of (source_of wad.large out) name stand ≡ Ok new
+  pub is_new : found_of (wad_source wad.large out) name stand ≡ Ok new
   pub same : new.map ≡ found.map
-  pub long : IsTable found.map.sectors (reject_of new)
-  pub bits : (a b : ℕ) → a < found.map.sectors → b < found.map.sectors → Rejected found.map.sectors (reject_of new) a b ↔ ¬ Sees found.map a b
-  pub seen : (a b : ℕ) → a < found.map.sectors → b < found.map.sectors → ¬ Rejected found.map.sectors (reject_of new) a b → Sees found.map a b
+  pub long : IsTable found.map.sectors (reject_bytes new)
+  pub bits : (a b : ℕ) → a < found.map.sectors → b < found.map.sectors → Rejected found.map.sectors (reject_bytes new) a b ↔ ¬ Sees found.map a b
+  pub seen : (a b : ℕ) → a < found.map.sectors → b < found.map.sectors → ¬ Rejected found.map.sectors (reject_bytes new) a b → Sees found.map a b
 
 -- .. and the line of the build counts no listed pair
 pub record LeavesExactReject (wad : Source) (name out : List ℕ) (files stand : Files) (sink : Sinks) : Type 0 where
@@ -171,9 +171,9 @@ IsSoundIn wad name files = (found : LocatedMap) × (found_of wad name files ≡ 
 -- ask.
 pub record LeavesClearReject (wad : Source) (name out : List ℕ) (stand : Files) (m : Map) : Type 0 where
   pub new : LocatedMap
-  pub is_new : found_of (source_of wad.large out) name stand ≡ Ok new
+  pub is_new : found_of (wad_source wad.large out) name stand ≡ Ok new
   pub same : new.map ≡ m
-  pub clear : reject_of new ≡ clear_table m.sectors
+  pub clear : reject_bytes new ≡ clear_table m.sectors
 
 -- There is one outcome for each map that was to be built, in order: a table where its faces are closed, and else a refusal. The line counts
 -- them, the report, where it is asked for, has a line for each, and of each that has a table this holds. Where clear tables are chosen for
@@ -182,14 +182,14 @@ pub record LeavesRejects (wad : Source) (out : List ℕ) (only : Option (List (L
   pub w : WadFile
   pub was : wad_in wad.file files ≡ Ok w
   pub maps : List (List ℕ)
-  pub asked : maps_in (names_of w) only ≡ Ok maps
+  pub asked : maps_in (names_of_lumps w) only ≡ Ok maps
   pub outcomes : List MapOutcome
   pub each : map (λ (o : MapOutcome). o.name) outcomes ≡ maps
-  pub said : sink.new.held ≡ option_map (λ held. held ++ tally_of choice outcomes) sink.old.held
-  pub reported : IfSome report (λ r. stand r.file ≡ Some (report_of r.spelling outcomes))
-  pub built : AllByRecursion (λ (o : MapOutcome). IsOk o.made ↔ IsSoundIn wad (word_of o.name) files) outcomes
-  pub right : AllByRecursion (λ (o : MapOutcome). IfOk o.made (IsRight (word_of o.name))) outcomes
-  pub cleared : choice ≡ refused.Clear → AllByRecursion (λ (o : MapOutcome). IfErr o.made (λ refusal. (found : LocatedMap) → found_of wad (word_of o.name) files ≡ Ok found → LeavesClearReject wad (word_of o.name) out stand found.map)) outcomes
+  pub said : sink.new.held ≡ option_map (λ held. held ++ tally_of_outcomes choice outcomes) sink.old.held
+  pub reported : IfSome report (λ r. stand r.file ≡ Some (outcomes_report r.spelling outcomes))
+  pub built : AllByRecursion (λ (o : MapOutcome). IsOk o.made ↔ IsSoundIn wad (name_before_nul o.name) files) outcomes
+  pub right : AllByRecursion (λ (o : MapOutcome). IfOk o.made (IsRight (name_before_nul o.name))) outcomes
+  pub cleared : choice ≡ refused.Clear → AllByRecursion (λ (o : MapOutcome). IfErr o.made (λ refusal. (found : LocatedMap) → found_of wad (name_before_nul o.name) files ≡ Ok found → LeavesClearReject wad (name_before_nul o.name) out stand found.map)) outcomes
   pub unstopped : Stops choice → AllByRecursion (λ (o : MapOutcome). IsOk o.made) outcomes
 
 -- Where `all` was done, the REJECT under OUT of each map that was built is as a `build` of it by the same method leaves it.

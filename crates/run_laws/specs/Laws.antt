@@ -12,11 +12,11 @@ use Rattle.sight_names.specs.Table.{IsTable}
 use Rattle.shelf_io.specs.Shelf.{Files, ShelfState}
 use Rattle.shelf_io.specs.Sink.{SinkState}
 use Rattle.wad_dir.specs.Map.{same_name}
-use Rattle.wad_dir.specs.Wad.{WadFile, names_of, wad_of}
+use Rattle.wad_dir.specs.Wad.{WadFile, names_of_lumps, wad_of}
 use Rattle.wad_dir.specs.WadRewrite.Again.{IsReadAgain}
 use Rattle.wad_dir.specs.declared.all_maps.parts.Change.{Change}
 use Rattle.wad_dir.specs.AllMaps.All.{HasReject, IsAll}
-use Rattle.wad_dir.specs.AllMaps.Names.{word_of}
+use Rattle.wad_dir.specs.AllMaps.Names.{name_before_nul}
 use Rattle.wad_dir.specs.AllMaps.Spliced.{spliced}
 use Rattle.refused_maps.specs.declared.Refused.{Refused}
 use Rattle.order_words.specs.declared.order.Order.TheVariants as order
@@ -24,7 +24,7 @@ use Rattle.order_words.specs.declared.order.ReportFile.{ReportFile}
 use Rattle.order_words.specs.declared.order.Source.{Source}
 use Rattle.order_words.specs.declared.order.View.{View}
 use Rattle.order_words.specs.declared.order.View.TheVariants as view
-use Rattle.order_words.specs.Words.{source_of}
+use Rattle.order_words.specs.Words.{wad_source}
 use Rattle.cert_checker.specs.declared.verdict.Totals.{Totals}
 use Rattle.map_answers.specs.declared.counts.Counts.{Counts}
 use Rattle.map_answers.specs.declared.sight_status.status.Bound.TheVariants as bound
@@ -43,8 +43,8 @@ use Rattle.whole_wad.specs.Tables.{IsFlawOf}
 use Rattle.sight_run.specs.All.{IsUnmade, maps_in, wad_in}
 use Rattle.sight_run.specs.Build.{ShowsLimit, build_line}
 use Rattle.row_spelling.specs.declared.Spelling.{Spelling}
-use Rattle.sight_run.specs.Check.{IsTableOf, reject_of, yes_row}
-use Rattle.map_answers.specs.Groups.{IsOverGroups, MapGroups}
+use Rattle.sight_run.specs.Check.{IsTableOfBytes, reject_bytes, yes_row}
+use Rattle.map_answers.specs.Groups.{IsMapWithGroups, MapGroups}
 use Rattle.map_answers.specs.Input.{LocatedMap, map_named}
 use Rattle.map_picture.specs.Bytes.{svg_of}
 use Rattle.map_picture.specs.Picture.{NamedParts, heat_picture, marked_picture, plan_picture, row_picture}
@@ -52,15 +52,15 @@ use Rattle.pair_answer.specs.declared.answer.PairAnswer.{PairAnswer}
 use Rattle.pair_answer.specs.Answer.{IsAnswerFor, IsMissing}
 use Rattle.draw_answers.specs.Drawn.{Drawing}
 use Rattle.fault_marks.specs.declared.marks.FaultMarks.{FaultMarks}
-use Rattle.draw_answers.specs.Faults.{AreMarksOf, IsFaultOf}
+use Rattle.draw_answers.specs.Faults.{AreMarksOf, IsAuditFaultOf}
 use Rattle.draw_answers.specs.Heat.{seen_by}
 use Rattle.draw_answers.specs.Pair.{ShowsPair}
 use Rattle.reject_bits.specs.Parts.{TableParts}
-use Rattle.sight_run.specs.Heard.{Heard}
+use Rattle.sight_run.specs.Heard.{ListenersHeard}
 use Rattle.sight_run.specs.Reading.{found_of}
 use Rattle.sight_run.specs.Draw.{named_in}
 use Rattle.sight_run.specs.Obeys.{IsAnswer}
-use Rattle.sight_run.specs.Run.{NothingRose, RunEnds, StatusCause, put_all}
+use Rattle.sight_run.specs.Run.{NothingRose, RunEnds, StatusCause, put_outputs}
 use Rattle.sight_run.specs.Words.{asked_of}
 use Rattle.sight_run.specs.Zero.{with_table}
 use Rattle.whole_wad.specs.Rejects.{clear_table}
@@ -72,7 +72,7 @@ pub record AskBoth (build check : List (List ℕ)) (name out cert : List ℕ) (s
   pub workers : ℕ
   pub method : Method
   pub built : asked_of build ≡ Ok (order.Build wad name out (Some cert) report workers method)
-  pub checked : asked_of check ≡ Ok (order.Check (source_of wad.large out) name cert spelled)
+  pub checked : asked_of check ≡ Ok (order.Check (wad_source wad.large out) name cert spelled)
   -- the map isn't called REJECT
   pub other : same_name (codes "REJECT") name ≡ false
 
@@ -82,8 +82,8 @@ pub record HaveBoth (files others : Files) (out cert : List ℕ) : Type 0 where
   pub at_cert : others cert ≡ files cert
 
 -- a file has no more bytes than a list in memory can have
-abbrev pub IsShort : Files → List ℕ → Type 0
-IsShort files name = (bytes : List ℕ) → files name ≡ Some bytes → length bytes ≤ 9223372036854775807
+abbrev pub IsFileShort : Files → List ℕ → Type 0
+IsFileShort files name = (bytes : List ℕ) → files name ≡ Some bytes → length bytes ≤ 9223372036854775807
 
 -- the totals that these counts are
 abbrev pub totals_of : Counts → Totals
@@ -93,13 +93,13 @@ totals_of counts = record { set = counts.set; clear = counts.clear; listed = cou
 pub record SaysYes (check : List (List ℕ)) (name : List ℕ) (spelled : Spelling) (others : Files) (answer : Answer) : Type 0 where
   pub counts : Counts
   pub built : answer.line ≡ build_line name counts
-  pub only : (heard : Heard) (given : Result Answer Status) → IsAnswer check others heard given → given ≡ Ok (only_line (yes_row spelled counts.sectors (totals_of counts)))
+  pub only : (heard : ListenersHeard) (given : Result Answer Status) → IsAnswer check others heard given → given ≡ Ok (only_line (yes_row spelled counts.sectors (totals_of counts)))
 
 -- Where a build is answered, the one answer to the check of what it wrote is yes, with the same counts.
 abbrev pub BuiltIsChecked : Type 0
-BuiltIsChecked = (build check : List (List ℕ)) (name out cert : List ℕ) (spelled : Spelling) (files others : Files) (heard : Heard) (answer : Answer)
+BuiltIsChecked = (build check : List (List ℕ)) (name out cert : List ℕ) (spelled : Spelling) (files others : Files) (heard : ListenersHeard) (answer : Answer)
     → AskBoth build check name out cert spelled → IsAnswer build files heard (Ok answer)
-    → HaveBoth (put_all files answer.writes) others out cert → IsShort others cert
+    → HaveBoth (put_outputs files answer.writes) others out cert → IsFileShort others cert
     → SaysYes check name spelled others answer
 
 -- The check ends with Done and the line of a yes with these counts. Want of memory and faults of reading or of the text can come too.
@@ -123,9 +123,9 @@ pub record EndWithYes (name : List ℕ) (spelled : Spelling) (building checking 
 
 -- Where a run of `build` ends with Done, a run of `check` on what stands in its two files then ends with Done.
 abbrev pub BuiltRunIsChecked : Type 0
-BuiltRunIsChecked = (build check : List (List ℕ)) (name out cert : List ℕ) (spelled : Spelling) (files stand others : Files) (heard unheard : Heard) (before after first last : ShelfState) (building checking : Sinks) (s : Status)
+BuiltRunIsChecked = (build check : List (List ℕ)) (name out cert : List ℕ) (spelled : Spelling) (files stand others : Files) (heard unheard : ListenersHeard) (before after first last : ShelfState) (building checking : Sinks) (s : Status)
     → AskBoth build check name out cert spelled → RunEnds build files heard before after building.old building.new status.Done
-    → after.files ≡ Some stand → HaveBoth stand others out cert → IsShort others cert
+    → after.files ≡ Some stand → HaveBoth stand others out cert → IsFileShort others cert
     → RunEnds check others unheard first last checking.old checking.new s → EndWithYes name spelled building checking s
 
 -- ---- what a written WAD keeps
@@ -148,15 +148,15 @@ HasTableLength m table = IsTable m.sectors table
 
 -- Where `zero` is answered, OUT holds the WAD with a clear REJECT and all other lumps as they were. The map isn't called REJECT.
 abbrev pub ZeroKeepsLumps : Type 0
-ZeroKeepsLumps = (words : List (List ℕ)) (wad : Source) (name out : List ℕ) (files : Files) (heard : Heard) (answer : Answer)
+ZeroKeepsLumps = (words : List (List ℕ)) (wad : Source) (name out : List ℕ) (files : Files) (heard : ListenersHeard) (answer : Answer)
     → asked_of words ≡ Ok (order.Zero wad name out) → same_name (codes "REJECT") name ≡ false → IsAnswer words files heard (Ok answer)
-    → KeepsLumps wad name out files (put_all files answer.writes) IsClearTable
+    → KeepsLumps wad name out files (put_outputs files answer.writes) IsClearTable
 
 -- where `build` is answered, it holds the WAD with a table of the map's sectors and all other lumps as they were
 abbrev pub BuildKeepsLumps : Type 0
-BuildKeepsLumps = (words : List (List ℕ)) (wad : Source) (name out : List ℕ) (asked report : Option (List ℕ)) (workers : ℕ) (method : Method) (files : Files) (heard : Heard) (answer : Answer)
+BuildKeepsLumps = (words : List (List ℕ)) (wad : Source) (name out : List ℕ) (asked report : Option (List ℕ)) (workers : ℕ) (method : Method) (files : Files) (heard : ListenersHeard) (answer : Answer)
     → asked_of words ≡ Ok (order.Build wad name out asked report workers method) → same_name (codes "REJECT") name ≡ false → IsAnswer words files heard (Ok answer)
-    → KeepsLumps wad name out files (put_all files answer.writes) HasTableLength
+    → KeepsLumps wad name out files (put_outputs files answer.writes) HasTableLength
 
 -- ---- what `draw` writes
 
@@ -170,7 +170,7 @@ pub record LeavesPicture (out : List ℕ) (files stand : Files) (IsPicture : Lis
 -- the plan with the faces of the groups
 pub record ShowsPlan (name : NamedParts) (m : Map) (bytes : List ℕ) : Type 0 where
   pub groups : MapGroups
-  pub over : IsOverGroups m groups
+  pub over : IsMapWithGroups m groups
   pub is : bytes ≡ svg_of m (plan_picture name m groups.groups groups.triangles groups.labels)
 
 -- the plan alone, with what this flaw calls for marked
@@ -184,26 +184,26 @@ ShowsFault name m bytes (Some which) = ShowsMarked name m which bytes
 ShowsFault name m bytes None = ShowsPlan name m bytes
 
 -- the first fault of the map, if it has one
-pub record ShowsFaults (name : NamedParts) (m : Map) (bytes : List ℕ) : Type 0 where
+pub record ShowsFirstFault (name : NamedParts) (m : Map) (bytes : List ℕ) : Type 0 where
   pub fault : Option Flaw
-  pub first : IsFaultOf m fault
+  pub first : IsAuditFaultOf m fault
   pub is : ShowsFault name m bytes fault
 
 -- the faces of the groups, by the row of sector a in a table that the bytes of the map's own REJECT spell
 pub record ShowsRow (name : NamedParts) (found : LocatedMap) (a : ℕ) (bytes : List ℕ) : Type 0 where
   pub within : a < found.map.sectors
   pub table : TableParts
-  pub spelled : IsTableOf found.map.sectors (reject_of found) table
+  pub spelled : IsTableOfBytes found.map.sectors (reject_bytes found) table
   pub groups : MapGroups
-  pub over : IsOverGroups found.map groups
+  pub over : IsMapWithGroups found.map groups
   pub is : bytes ≡ svg_of found.map (row_picture name found.map groups.groups groups.triangles groups.labels table a)
 
 -- .. by how much each sector may see by such a table
 pub record ShowsHeat (name : NamedParts) (found : LocatedMap) (bytes : List ℕ) : Type 0 where
   pub table : TableParts
-  pub spelled : IsTableOf found.map.sectors (reject_of found) table
+  pub spelled : IsTableOfBytes found.map.sectors (reject_bytes found) table
   pub groups : MapGroups
-  pub over : IsOverGroups found.map groups
+  pub over : IsMapWithGroups found.map groups
   pub is : bytes ≡ svg_of found.map (heat_picture name found.map groups.groups groups.triangles groups.labels (seen_by table groups.groups))
 
 -- what an answer for the pair calls for
@@ -211,14 +211,14 @@ pub record ShowsAnswer (name : NamedParts) (m : Map) (pair : Pair) (ask : Ask) (
   pub given : PairAnswer
   pub is_answer : IsAnswerFor m ask pair given
   pub groups : MapGroups
-  pub over : IsOverGroups m groups
+  pub over : IsMapWithGroups m groups
   pub shown : Drawing
   pub shows : ShowsPair name m pair groups ask given shown
   pub is : bytes ≡ shown.bytes
 
 abbrev pub ShowsView : NamedParts → LocatedMap → View → List ℕ → Type 0
 ShowsView name found view.Plan bytes = ShowsPlan name found.map bytes
-ShowsView name found view.Faults bytes = ShowsFaults name found.map bytes
+ShowsView name found view.Faults bytes = ShowsFirstFault name found.map bytes
 ShowsView name found (view.Row a) bytes = ShowsRow name found a bytes
 ShowsView name found view.Heat bytes = ShowsHeat name found bytes
 ShowsView name found (view.Pair pair ask) bytes = ShowsAnswer name found.map pair ask bytes
@@ -232,9 +232,9 @@ pub record IsPictureOf (wad : Source) (name : List ℕ) (view : View) (files : F
 
 -- Where `draw` is answered, OUT holds the picture that it asks for, and all other files are as they were.
 abbrev pub DrawLeavesPicture : Type 0
-DrawLeavesPicture = (words : List (List ℕ)) (wad : Source) (name out : List ℕ) (asked : View) (files : Files) (heard : Heard) (answer : Answer)
+DrawLeavesPicture = (words : List (List ℕ)) (wad : Source) (name out : List ℕ) (asked : View) (files : Files) (heard : ListenersHeard) (answer : Answer)
     → asked_of words ≡ Ok (order.Draw wad name out asked) → IsAnswer words files heard (Ok answer)
-    → LeavesPicture out files (put_all files answer.writes) (IsPictureOf wad name asked files)
+    → LeavesPicture out files (put_outputs files answer.writes) (IsPictureOf wad name asked files)
 
 -- ---- what `all` writes
 
@@ -244,8 +244,8 @@ table_built built = record { table = built.table; listed = built.listed }
 
 -- What `all` makes of a map is what `build` makes of it by the same method: the same table, byte for byte, and the same list, or the same flaw.
 pub record AreMadeAlike (found : LocatedMap) (name : List ℕ) (method : Method) (outcomes : List MapOutcome) : Type 0 where
-  pub tables : (o : MapOutcome) → Contains outcomes o → word_of o.name ≡ name → (built : Built) → IsBuiltOf found.map method built → o.made ≡ Ok (table_built built)
-  pub flaws : (o : MapOutcome) → Contains outcomes o → word_of o.name ≡ name → (refusal : Status) → IsFlawOf found.map refusal → o.made ≡ Err refusal
+  pub tables : (o : MapOutcome) → Contains outcomes o → name_before_nul o.name ≡ name → (built : Built) → IsBuiltOf found.map method built → o.made ≡ Ok (table_built built)
+  pub flaws : (o : MapOutcome) → Contains outcomes o → name_before_nul o.name ≡ name → (refusal : Status) → IsFlawOf found.map refusal → o.made ≡ Err refusal
 
 abbrev pub AllIsAsBuild : Type 0
 AllIsAsBuild = (wad : Source) (name : List ℕ) (files : Files) (w : WadFile) (found : LocatedMap) (maps : List (List ℕ)) (method : Method) (choice : Refused) (outcomes : List MapOutcome)
@@ -262,10 +262,10 @@ pub record KeepsAllLumps (wad : Source) (out : List ℕ) (only : Option (List (L
   pub w : WadFile
   pub was : wad_in wad.file files ≡ Ok w
   pub maps : List (List ℕ)
-  pub asked : maps_in (names_of w) only ≡ Ok maps
+  pub asked : maps_in (names_of_lumps w) only ≡ Ok maps
   pub outcomes : List MapOutcome
   pub are : AreOutcomes w wad.large maps method choice outcomes
-  pub lengths : AllByRecursion (λ (o : MapOutcome). HasLengthOf (map_named wad.large w (word_of o.name)) o.made) outcomes
+  pub lengths : AllByRecursion (λ (o : MapOutcome). HasLengthOf (map_named wad.large w (name_before_nul o.name)) o.made) outcomes
   pub bytes : List ℕ
   pub stands : stand out ≡ Some bytes
   pub short : length bytes < 2 ^ 31
@@ -275,20 +275,20 @@ pub record KeepsAllLumps (wad : Source) (out : List ℕ) (only : Option (List (L
   pub made : IsAll w (changes_of outcomes) new
   pub tables : AllByRecursion (λ (c : Change). HasReject new c.name c.table) (changes_of outcomes)
   -- what lies before, between and behind these REJECTs is what it was
-  pub lumps : new.lumps ≡ spliced (names_of w) w.lumps 0 (changes_of outcomes)
+  pub lumps : new.lumps ≡ spliced (names_of_lumps w) w.lumps 0 (changes_of outcomes)
 
 -- Where `all` is answered, OUT holds such a WAD.
 abbrev pub AllKeepsLumps : Type 0
-AllKeepsLumps = (words : List (List ℕ)) (wad : Source) (out : List ℕ) (only : Option (List (List ℕ))) (report : Option ReportFile) (workers : ℕ) (method : Method) (choice : Refused) (files : Files) (heard : Heard) (answer : Answer)
+AllKeepsLumps = (words : List (List ℕ)) (wad : Source) (out : List ℕ) (only : Option (List (List ℕ))) (report : Option ReportFile) (workers : ℕ) (method : Method) (choice : Refused) (files : Files) (heard : ListenersHeard) (answer : Answer)
     → asked_of words ≡ Ok (order.All wad out only report workers method choice) → IsAnswer words files heard (Ok answer)
-    → KeepsAllLumps wad out only method choice files (put_all files answer.writes)
+    → KeepsAllLumps wad out only method choice files (put_outputs files answer.writes)
 
 -- ---- where nothing failed
 
 -- how a run went: the files, the shelf, the sink and the listeners before and after it, and its status
 pub record Went : Type 0 where
   pub files : Files
-  pub heard : Heard
+  pub heard : ListenersHeard
   pub before : ShelfState
   pub after : ShelfState
   pub sink : Sinks
@@ -333,7 +333,7 @@ EndsAll large maps method choice w refusal = IsUnmade w large maps method choice
 -- `all` of a WAD that is read ends so, where each name that is given is that of a map. Without names there is nothing to be found.
 abbrev pub AllIsDone : Type 0
 AllIsDone = (words : List (List ℕ)) (wad : Source) (out : List ℕ) (only : Option (List (List ℕ))) (report : Option ReportFile) (workers : ℕ) (method : Method) (choice : Refused) (went : Went) (w : WadFile) (maps : List (List ℕ))
-    → asked_of words ≡ Ok (order.All wad out only report workers method choice) → wad_in wad.file went.files ≡ Ok w → maps_in (names_of w) only ≡ Ok maps
+    → asked_of words ≡ Ok (order.All wad out only report workers method choice) → wad_in wad.file went.files ≡ Ok w → maps_in (names_of_lumps w) only ≡ Ok maps
     → WentWell words went → EndsAll wad.large maps method choice w went.status
 
 -- it is done, unless memory ran out or one of the two is no sector of the map

@@ -19,7 +19,7 @@ use Rattle.order_words.specs.declared.order.Source.{Source}
 use Rattle.order_words.specs.declared.order.View.TheVariants as view
 use Rattle.order_words.specs.Laws.{GivesNoBudget, bound_of}
 use Rattle.map_answers.specs.SightStatus.Answer.{only_line}
-use Rattle.map_answers.specs.Groups.{IsOverGroups, MapGroups}
+use Rattle.map_answers.specs.Groups.{IsMapWithGroups, MapGroups}
 use Rattle.map_answers.specs.Input.{LocatedMap}
 use Rattle.map_picture.specs.Bytes.{svg_of}
 use Rattle.map_picture.specs.Laws.{ShowsFaces, ShowsLines, TellsPair as TellsFaces}
@@ -27,7 +27,7 @@ use Rattle.map_picture.specs.Picture.{Element}
 use Rattle.pair_answer.specs.declared.answer.PairAnswer.{PairAnswer}
 use Rattle.pair_answer.specs.declared.answer.PairAnswer.TheVariants as answer
 use Rattle.pair_answer.specs.declared.entered_triangles.entered.Entered.{Entered}
-use Rattle.pair_answer.specs.WhyAnswers.Why.{said_of}
+use Rattle.pair_answer.specs.WhyAnswers.Why.{said_of_answer}
 use Rattle.draw_answers.specs.Drawn.{Drawing}
 use Rattle.draw_answers.specs.Laws.{InEntered, InFaceOf}
 use Rattle.draw_answers.specs.Pair.{IsEnteredOver, ShowsPair}
@@ -41,12 +41,12 @@ use Rattle.run_laws.specs.Laws.{Sinks}
 
 -- whether the two sectors see each other, where the answer tells it; and that a build within this budget lists their pair just where
 -- the answer says so
-abbrev pub TellsPair : Map → Budget → Pair → PairAnswer → Type 0
-TellsPair m budget pair (answer.Sight ray) = Sees m pair.a pair.b × ¬ IsListedByGroups m budget pair.a pair.b
-TellsPair m budget pair answer.Blind = (¬ Sees m pair.a pair.b) × ¬ IsListedByGroups m budget pair.a pair.b
-TellsPair m budget pair answer.Touch = Sees m pair.a pair.b × ¬ IsListedByGroups m budget pair.a pair.b
-TellsPair m budget pair answer.Listed = IsListedByGroups m budget pair.a pair.b
-TellsPair m budget pair (answer.NoSector k) = ⊥
+abbrev pub TellsPairOfSectors : Map → Budget → Pair → PairAnswer → Type 0
+TellsPairOfSectors m budget pair (answer.Sight ray) = Sees m pair.a pair.b × ¬ IsListedByGroups m budget pair.a pair.b
+TellsPairOfSectors m budget pair answer.Blind = (¬ Sees m pair.a pair.b) × ¬ IsListedByGroups m budget pair.a pair.b
+TellsPairOfSectors m budget pair answer.Touch = Sees m pair.a pair.b × ¬ IsListedByGroups m budget pair.a pair.b
+TellsPairOfSectors m budget pair answer.Listed = IsListedByGroups m budget pair.a pair.b
+TellsPairOfSectors m budget pair (answer.NoSector k) = ⊥
 
 -- .. within the budget that is asked for
 pub record DecidesPair (m : Map) (ask : Ask) (pair : Pair) (given : PairAnswer) : Type 0 where
@@ -54,7 +54,7 @@ pub record DecidesPair (m : Map) (ask : Ask) (pair : Pair) (given : PairAnswer) 
   pub second : pair.b < m.sectors
   pub budget : Budget
   pub is_budget : IsBudgetOf m ask budget
-  pub tells : TellsPair m budget pair given
+  pub tells : TellsPairOfSectors m budget pair given
   -- with a budget that is enough, and without any, the answer is never that the pair is listed
   pub told : (ask ≡ Enough) ⊎ (ask ≡ Full) → ¬ (given ≡ answer.Listed)
 
@@ -74,7 +74,7 @@ pub record SaysOfPair (wad : Source) (name : List ℕ) (pair : Pair) (ask : Ask)
   pub given : PairAnswer
   pub decides : DecidesPair found.map ask pair given
   pub line : List ℕ
-  pub is_line : said_of pair given ≡ Ok (only_line line)
+  pub is_line : said_of_answer pair given ≡ Ok (only_line line)
   pub said : sink.new.held ≡ option_map (λ held. held ++ line) sink.old.held
   pub stays : stand ≡ files
 
@@ -99,7 +99,7 @@ pub record DrawsOfPair (wad : Source) (name out : List ℕ) (pair : Pair) (ask :
   pub given : PairAnswer
   pub decides : DecidesPair found.map ask pair given
   pub groups : MapGroups
-  pub over : IsOverGroups found.map groups
+  pub over : IsMapWithGroups found.map groups
   pub shown : Drawing
   pub shows : ShowsPair (named_in found name) found.map pair groups ask given shown
   pub encloses : (budget : Budget) (a : ℕ) (e : Entered) → IsEnteredOver groups budget a e → EnclosesSight found.map groups a e

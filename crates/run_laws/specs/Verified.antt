@@ -11,7 +11,7 @@ use Rattle.sight_names.specs.Sees.{Sees}
 use Rattle.sight_names.specs.Sound.{IsSound}
 use Rattle.sight_names.specs.Table.{Rejected}
 use Rattle.shelf_io.specs.Shelf.{Files, ShelfState}
-use Rattle.wad_dir.specs.AllMaps.Names.{word_of}
+use Rattle.wad_dir.specs.AllMaps.Names.{name_before_nul}
 use Rattle.wad_dir.specs.Wad.{WadFile}
 use Rattle.order_words.specs.declared.order.Order.TheVariants as order
 use Rattle.order_words.specs.declared.order.ReportFile.{ReportFile}
@@ -27,21 +27,21 @@ use Rattle.table_verdicts.specs.declared.verdict.Shown.TheVariants as shown
 use Rattle.table_verdicts.specs.declared.verdict.Verdict.{Verdict}
 use Rattle.table_verdicts.specs.declared.verdict.Verdict.TheVariants as verdict
 use Rattle.whole_wad.specs.Rejects.{reject_named, table_len}
-use Rattle.table_verdicts.specs.Own.{IsShort}
-use Rattle.table_verdicts.specs.Report.{report_of}
-use Rattle.table_compare.specs.Counts.{IsCountOf, IsFirst}
+use Rattle.table_verdicts.specs.Own.{IsRejectShort}
+use Rattle.table_verdicts.specs.Report.{verdicts_report}
+use Rattle.table_compare.specs.Counts.{IsCountOf, IsFirstSuchPair}
 use Rattle.table_verdicts.specs.Tallies.{all_right, tally_line, tally_of}
-use Rattle.table_verdicts.specs.Verdict.{IsMissing, IsWrong, answer_of}
+use Rattle.table_verdicts.specs.Verdict.{IsBitMissing, IsWrong, answer_of}
 use Rattle.sight_run.specs.Asked.{AskedMaps, asked_in}
 use Rattle.sight_run.specs.Build.{report_writes}
-use Rattle.sight_run.specs.Heard.{Heard}
-use Rattle.sight_run.specs.Run.{RunEnds, put_all}
+use Rattle.sight_run.specs.Heard.{ListenersHeard}
+use Rattle.sight_run.specs.Run.{RunEnds, put_outputs}
 use Rattle.sight_run.specs.Words.{asked_of, file_in, spelling_in}
 use Rattle.run_laws.specs.Laws.{Sinks}
 
 -- A run of these words over these files did what they ask, as `run` promises of it, and left those files: with Done, or with NotRight.
 pub record WasEnded (words : List (List ℕ)) (files stand : Files) (right : Bool) : Type 0 where
-  pub heard : Heard
+  pub heard : ListenersHeard
   pub before : ShelfState
   pub after : ShelfState
   pub sink : Sinks
@@ -57,7 +57,7 @@ IsBlindWhereSet m reject = (a b : ℕ) → a < m.sectors → b < m.sectors → R
 -- It is the first wrong pair, and why its sectors see each other: in a map whose faces have one name each its ray is a sight ray from the
 -- one to the other.
 pub record TellsFirst (m : Map) (reject : List ℕ) (first : FirstWrong) : Type 0 where
-  pub is_first : IsFirst m.sectors (IsWrong m reject) first.pair
+  pub is_first : IsFirstSuchPair m.sectors (IsWrong m reject) first.pair
   pub sight : IsAnswerFor m Full first.pair (answer_of first.by)
   pub ray : (ray : Ray) → first.by ≡ shown.Ray ray → IsSound m → IsSightRay m ray first.pair.a first.pair.b
 
@@ -72,14 +72,14 @@ pub record TellsBits (m : Map) (reject : List ℕ) (findings : Findings) : Type 
   pub enough : table_len m.sectors ≤ length reject
   pub faces : HasClosedFaces m
   pub wrong : IsCountOf m.sectors (IsWrong m reject) findings.wrong
-  pub missing : IsCountOf m.sectors (IsMissing m reject) findings.missing
+  pub missing : IsCountOf m.sectors (IsBitMissing m reject) findings.missing
   pub blind : findings.wrong ≡ 0 → IsBlindWhereSet m reject
   pub first : TellsFirstOf m reject findings.first
 
 -- Of a map that was read: its REJECT is short, or its bits are counted, or a face isn't closed and it isn't judged. Of one that wasn't it
 -- tells why.
 abbrev pub TellsReject : Result Map Status → List ℕ → Result Verdict Status → Type 0
-TellsReject (Ok m) reject (Ok (verdict.Short found expected)) = IsShort m.sectors reject found expected
+TellsReject (Ok m) reject (Ok (verdict.Short found expected)) = IsRejectShort m.sectors reject found expected
 TellsReject (Ok m) reject (Ok (verdict.Judged findings)) = TellsBits m reject findings
 TellsReject (Ok m) reject (Err refusal) = ¬ HasClosedFaces m
 TellsReject (Err refusal) reject said = said ≡ Err refusal
@@ -100,11 +100,11 @@ pub record TellsRejects (wad : Source) (only : Option (List (List ℕ))) (report
   pub are_asked : asked_in wad.file only files ≡ Ok asked
   pub verdicts : List MapVerdict
   pub each : map (λ (v : MapVerdict). v.name) verdicts ≡ asked.maps
-  pub tells : AllByRecursion (λ (v : MapVerdict). TellsReject (map_named wad.large asked.wad (word_of v.name)) (reject_named asked.wad (word_of v.name)) v.said) verdicts
+  pub tells : AllByRecursion (λ (v : MapVerdict). TellsReject (map_named wad.large asked.wad (name_before_nul v.name)) (reject_named asked.wad (name_before_nul v.name)) v.said) verdicts
   pub said : sink.new.held ≡ option_map (λ held. held ++ tally_line (tally_of verdicts)) sink.old.held
-  pub stands : stand ≡ put_all files (report_writes (file_in report) (report_of (spelling_in report) verdicts))
+  pub stands : stand ≡ put_outputs files (report_writes (file_in report) (verdicts_report (spelling_in report) verdicts))
   pub right_is : right ≡ all_right (tally_of verdicts)
-  pub blind : right ≡ true → AllByRecursion (λ (v : MapVerdict). IsOk v.said → IsRightReject (map_named wad.large asked.wad (word_of v.name)) (reject_named asked.wad (word_of v.name))) verdicts
+  pub blind : right ≡ true → AllByRecursion (λ (v : MapVerdict). IsOk v.said → IsRightReject (map_named wad.large asked.wad (name_before_nul v.name)) (reject_named asked.wad (name_before_nul v.name))) verdicts
 
 -- so it is where a `verify` did what it is asked
 abbrev pub VerifiedIsRight : Type 0

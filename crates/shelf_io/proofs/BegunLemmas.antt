@@ -5,18 +5,18 @@ use Rattle.std.proofs.lemmas.List.{drop_more, take_at}
 use Rattle.std.proofs.lemmas.Slice.Eq.{bytes_eq-Decides}
 use Rattle.std.specs.List.{items_where_true}
 use Rattle.std.specs.Str.{bytes_eq}
-use Rattle.shelf_io.specs.Shelf.{BeginsAmong, IsAmong, NoneBegun, is_named}
+use Rattle.shelf_io.specs.Shelf.{BeginsAmong, IsNameAmong, NoneBegun, is_named}
 
-same_or : (n : List ℕ) (old names : List (List ℕ)) → IsAmong n old ⊎ IsAmong n [] → IsAmong n old ⊎ IsAmong n names
+same_or : (n : List ℕ) (old names : List (List ℕ)) → IsNameAmong n old ⊎ IsNameAmong n [] → IsNameAmong n old ⊎ IsNameAmong n names
 same_or n old names (inl h) = inl h
 same_or n old names (inr h) = absurd h
 
-then_or : (n : List ℕ) (old mid names : List (List ℕ)) → BeginsAmong old mid names → IsAmong n mid ⊎ IsAmong n names → IsAmong n old ⊎ IsAmong n names
+then_or : (n : List ℕ) (old mid names : List (List ℕ)) → BeginsAmong old mid names → IsNameAmong n mid ⊎ IsNameAmong n names → IsNameAmong n old ⊎ IsNameAmong n names
 then_or n old mid names p (inl h) = p.each n h
 then_or n old mid names p (inr h) = inr h
 
 pub among_same : (old new names : List (List ℕ)) → new ≡ old → BeginsAmong old new names
-among_same old new names e = record { each = λ n h. inl (subst (IsAmong n) e h) }
+among_same old new names e = record { each = λ n h. inl (subst (IsNameAmong n) e h) }
 
 -- where nothing is begun, any names may be
 pub among_any : (old new names : List (List ℕ)) → BeginsAmong old new [] → BeginsAmong old new names
@@ -29,7 +29,7 @@ among_then old mid new names p q = record { each = λ n h. then_or n old mid nam
 -- ---- of a list whose elements have names
 
 module _ {X : Type 0} (name_of : X → List ℕ) where
-  removed : (xs : List X) (i : ℕ) (n : List ℕ) → IsAmong n (map name_of (remove xs i)) → IsAmong n (map name_of xs)
+  removed : (xs : List X) (i : ℕ) (n : List ℕ) → IsNameAmong n (map name_of (remove xs i)) → IsNameAmong n (map name_of xs)
   removed [] zero n h = absurd h
   removed [] (suc i) n h = absurd h
   removed (x ∷ xs) zero n h = inr h
@@ -37,9 +37,9 @@ module _ {X : Type 0} (name_of : X → List ℕ) where
   removed (x ∷ xs) (suc i) n (inr h) = inr (removed xs i n h)
 
   pub among_removed : (xs ys : List X) (i : ℕ) → ys ≡ remove xs i → BeginsAmong (map name_of xs) (map name_of ys) []
-  among_removed xs ys i e = record { each = λ n h. inl (removed xs i n (subst (λ (zs : List X). IsAmong n (map name_of zs)) e h)) }
+  among_removed xs ys i e = record { each = λ n h. inl (removed xs i n (subst (λ (zs : List X). IsNameAmong n (map name_of zs)) e h)) }
 
-  retained : (bs : List Bool) (xs : List X) (n : List ℕ) → IsAmong n (map name_of (items_where_true bs xs)) → IsAmong n (map name_of xs)
+  retained : (bs : List Bool) (xs : List X) (n : List ℕ) → IsNameAmong n (map name_of (items_where_true bs xs)) → IsNameAmong n (map name_of xs)
   retained [] xs n h = absurd h
   retained (b ∷ bs) [] n h = absurd h
   retained (true ∷ bs) (x ∷ xs) n (inl e) = inl e
@@ -47,21 +47,21 @@ module _ {X : Type 0} (name_of : X → List ℕ) where
   retained (false ∷ bs) (x ∷ xs) n h = inr (retained bs xs n h)
 
   pub among_retained : (xs ys : List X) (bs : List Bool) → ys ≡ items_where_true bs xs → BeginsAmong (map name_of xs) (map name_of ys) []
-  among_retained xs ys bs e = record { each = λ n h. inl (retained bs xs n (subst (λ (zs : List X). IsAmong n (map name_of zs)) e h)) }
+  among_retained xs ys bs e = record { each = λ n h. inl (retained bs xs n (subst (λ (zs : List X). IsNameAmong n (map name_of zs)) e h)) }
 
-  behind : (x : X) (xs : List X) (names : List (List ℕ)) (n : List ℕ) → IsAmong n (map name_of xs) ⊎ IsAmong n names → IsAmong n (map name_of (x ∷ xs)) ⊎ IsAmong n names
+  behind : (x : X) (xs : List X) (names : List (List ℕ)) (n : List ℕ) → IsNameAmong n (map name_of xs) ⊎ IsNameAmong n names → IsNameAmong n (map name_of (x ∷ xs)) ⊎ IsNameAmong n names
   behind x xs names n (inl h) = inl (inr h)
   behind x xs names n (inr h) = inr h
 
-  pushed : (xs : List X) (y : X) (n : List ℕ) → IsAmong n (map name_of (xs ++ y ∷ [])) → IsAmong n (map name_of xs) ⊎ IsAmong n (name_of y ∷ [])
+  pushed : (xs : List X) (y : X) (n : List ℕ) → IsNameAmong n (map name_of (xs ++ y ∷ [])) → IsNameAmong n (map name_of xs) ⊎ IsNameAmong n (name_of y ∷ [])
   pushed [] y n h = inr h
   pushed (x ∷ xs) y n (inl e) = inl (inl e)
   pushed (x ∷ xs) y n (inr h) = behind x xs (name_of y ∷ []) n (pushed xs y n h)
 
   pub among_pushed : (xs ys : List X) (y : X) (name : List ℕ) → ys ≡ xs ++ y ∷ [] → name_of y ≡ name → BeginsAmong (map name_of xs) (map name_of ys) (name ∷ [])
-  among_pushed xs ys y name e is = record { each = λ n h. subst (λ (m : List ℕ). IsAmong n (map name_of xs) ⊎ IsAmong n (m ∷ [])) is (pushed xs y n (subst (λ (zs : List X). IsAmong n (map name_of zs)) e h)) }
+  among_pushed xs ys y name e is = record { each = λ n h. subst (λ (m : List ℕ). IsNameAmong n (map name_of xs) ⊎ IsNameAmong n (m ∷ [])) is (pushed xs y n (subst (λ (zs : List X). IsNameAmong n (map name_of zs)) e h)) }
 
-  unnamed : (xs : List X) (q : List ℕ) → is_named name_of xs q ≡ false → IsAmong q (map name_of xs) → ⊥
+  unnamed : (xs : List X) (q : List ℕ) → is_named name_of xs q ≡ false → IsNameAmong q (map name_of xs) → ⊥
   unnamed [] q e h = h
   unnamed (x ∷ xs) q e (inl p) =
       let t : bytes_eq (name_of x) q ≡ true = (bytes_eq-Decides (name_of x) q).1 p in
@@ -69,8 +69,8 @@ module _ {X : Type 0} (name_of : X → List ℕ) where
   unnamed (x ∷ xs) q e (inr h) =
       elim (bytes_eq (name_of x) q) as (λ b. cond b true (is_named name_of xs q) ≡ false → ⊥) [ true ↦ λ f. absurd cc | false ↦ λ f. unnamed xs q f h ] e
 
-  none_is : (xs : List X) (q : List ℕ) → is_named name_of xs q ≡ false → (n : List ℕ) → IsAmong n (map name_of xs) → IsAmong n (q ∷ []) → ⊥
-  none_is xs q e n h (inl r) = unnamed xs q e (subst (λ (k : List ℕ). IsAmong k (map name_of xs)) (sym r) h)
+  none_is : (xs : List X) (q : List ℕ) → is_named name_of xs q ≡ false → (n : List ℕ) → IsNameAmong n (map name_of xs) → IsNameAmong n (q ∷ []) → ⊥
+  none_is xs q e n h (inl r) = unnamed xs q e (subst (λ (k : List ℕ). IsNameAmong k (map name_of xs)) (sym r) h)
   none_is xs q e n h (inr r) = r
 
   pub none_named : (xs : List X) (q : List ℕ) → is_named name_of xs q ≡ false → NoneBegun (map name_of xs) (q ∷ [])

@@ -19,17 +19,17 @@ files_of [] name = None
 files_of (file ∷ files) name = if bytes_eq (string_bytes file.name) name then Some file.bytes.items else files_of files name
 
 -- the place of the first file of that name
-abbrev pub place_in : List File → List ℕ → Option ℕ
-place_in [] name = None
-place_in (file ∷ files) name = if bytes_eq (string_bytes file.name) name then Some 0 else option_map suc (place_in files name)
+abbrev pub place_in_files : List File → List ℕ → Option ℕ
+place_in_files [] name = None
+place_in_files (file ∷ files) name = if bytes_eq (string_bytes file.name) name then Some 0 else option_map suc (place_in_files files name)
 
 -- the number of a call's successor, which stands still at the end of its type
 abbrev pub next : ℕ → ℕ
 next n = min (n + 1) (2 ^ 64 - 1)
 
 -- the call of this number is to fail
-abbrev pub is_listed : ℕ → List ℕ → Bool
-is_listed call fails = list_any (λ k. k == call) fails
+abbrev pub is_call_listed : ℕ → List ℕ → Bool
+is_call_listed call fails = list_any (λ k. k == call) fails
 
 -- ---- the shelf
 

@@ -35,9 +35,9 @@ pub record ShelfState : Type 0 where
   pub absents : ℕ
 
 -- the name is one of these
-abbrev pub IsAmong : List ℕ → List (List ℕ) → Type 0
-IsAmong name [] = ⊥
-IsAmong name (first ∷ names) = (first ≡ name) ⊎ IsAmong name names
+abbrev pub IsNameAmong : List ℕ → List (List ℕ) → Type 0
+IsNameAmong name [] = ⊥
+IsNameAmong name (first ∷ names) = (first ≡ name) ⊎ IsNameAmong name names
 
 -- whether one of these has the name
 abbrev pub is_named : {X : Type 0} → (X → List ℕ) → List X → List ℕ → Bool
@@ -46,11 +46,11 @@ is_named name_of (x ∷ xs) name = if bytes_eq (name_of x) name then true else i
 
 -- each name that is begun now was begun before, or is one of these
 pub record BeginsAmong (old new names : List (List ℕ)) : Type 0 where
-  pub each : (n : List ℕ) → IsAmong n new → IsAmong n old ⊎ IsAmong n names
+  pub each : (n : List ℕ) → IsNameAmong n new → IsNameAmong n old ⊎ IsNameAmong n names
 
 -- none of these names is begun now
 pub record NoneBegun (new names : List (List ℕ)) : Type 0 where
-  pub none : (n : List ℕ) → IsAmong n new → IsAmong n names → ⊥
+  pub none : (n : List ℕ) → IsNameAmong n new → IsNameAmong n names → ⊥
 
 -- A count rose when it is greater than before. The last value of a counter passes for risen.
 abbrev pub Rose : ℕ → ℕ → Type 0

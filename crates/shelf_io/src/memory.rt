@@ -5,7 +5,7 @@ ghost use Rattle.std.specs.Option.{option_map, option_copied};
 ghost use Rattle.std.specs.Str.{bytes_eq};
 ghost use Rattle.shelf_io.specs.Shelf.{Files, IsReadAt, put, append_to, ReadsFile, ReadCause, SameCause, Rose, NoneFell, SameCounts, MayBeEmpty, MayHaveFront, BeginsAmong, NoneBegun};
 ghost use Rattle.shelf_io.specs.Sink.{HasFront};
-ghost use Rattle.shelf_io.specs.Fakes.{files_of, place_in, files_in, shelf_of, fails_of, calls_of, starved_of, is_listed, next, read_answer, CreatesIn, AppendsIn, held_in, sink_of, failing_puts, puts_of, sink_starved, PutsIn};
+ghost use Rattle.shelf_io.specs.Fakes.{files_of, place_in_files, files_in, shelf_of, fails_of, calls_of, starved_of, is_call_listed, next, read_answer, CreatesIn, AppendsIn, held_in, sink_of, failing_puts, puts_of, sink_starved, PutsIn};
 
 use crate::shelf::{SameFault, Shelf, Sink};
 use sight_names::{Failed, ShelfFault};
@@ -42,7 +42,7 @@ pub struct MemShelf {
 }
 
 fn place_of(files: &[File], name: &str) -> Option<usize>
-    ensures place { result ≡ place_in files.now name.now }
+    ensures place { result ≡ place_in_files files.now name.now }
     ensures within { IfSome result (λ i. i < length files.now) }
 {
     for (i, file) in files.iter().enumerate() {
@@ -164,7 +164,7 @@ impl Shelf for MemShelf {
         ensures counts { NoneFell (shelf_of self.old) (shelf_of self.new) }
         ensures cause { ReadCause (shelf_of self.old) (shelf_of self.new) result }
         // Beyond what any shelf does: which reads fail, and how much the others read.
-        ensures answer { result ≡ read_answer (is_listed (calls_of self.old).reads (fails_of self.old).reads.items) (files_in self.old name.now) at (length buf.old) }
+        ensures answer { result ≡ read_answer (is_call_listed (calls_of self.old).reads (fails_of self.old).reads.items) (files_in self.old name.now) at (length buf.old) }
         ensures counted { calls_of self.new ≡ record (calls_of self.old) { reads = next (calls_of self.old).reads } }
         ensures fails { fails_of self.new ≡ fails_of self.old }
         ensures starved { starved_of self.new ≡ starved_of self.old }
@@ -190,7 +190,7 @@ impl Shelf for MemShelf {
         ensures quiet { OnOk result (SameCounts (shelf_of self.old) (shelf_of self.new)) }
         ensures cause { OnErr result (Rose (shelf_of self.old).write_faults (shelf_of self.new).write_faults) }
         // Beyond what any shelf does: which creates fail.
-        ensures answer { CreatesIn (is_listed (calls_of self.old).creates (fails_of self.old).creates.items) self.old self.new result }
+        ensures answer { CreatesIn (is_call_listed (calls_of self.old).creates (fails_of self.old).creates.items) self.old self.new result }
         ensures counted { calls_of self.new ≡ record (calls_of self.old) { creates = next (calls_of self.old).creates } }
         ensures fails { fails_of self.new ≡ fails_of self.old }
     {
@@ -216,7 +216,7 @@ impl Shelf for MemShelf {
         ensures quiet { OnOk result (SameCounts (shelf_of self.old) (shelf_of self.new)) }
         ensures cause { OnErr result (Rose (shelf_of self.old).write_faults (shelf_of self.new).write_faults) }
         // Beyond what any shelf does: which appends fail, and what they take.
-        ensures answer { AppendsIn (is_listed (calls_of self.old).appends (fails_of self.old).appends.items) self.old self.new name.now bytes.now result }
+        ensures answer { AppendsIn (is_call_listed (calls_of self.old).appends (fails_of self.old).appends.items) self.old self.new name.now bytes.now result }
         ensures counted { calls_of self.new ≡ record (calls_of self.old) { appends = next (calls_of self.old).appends } }
         ensures fails { fails_of self.new ≡ fails_of self.old }
     {
@@ -310,7 +310,7 @@ impl Sink for MemSink {
         ensures quiet { OnOk result ((sink_of self.new).faults ≡ (sink_of self.old).faults) }
         ensures cause { OnErr result (Rose (sink_of self.old).faults (sink_of self.new).faults) }
         // Beyond what any sink does: which puts fail, and what they take.
-        ensures answer { PutsIn (is_listed (puts_of self.old) (failing_puts self.old)) self.old self.new bytes.now result }
+        ensures answer { PutsIn (is_call_listed (puts_of self.old) (failing_puts self.old)) self.old self.new bytes.now result }
         ensures counted { puts_of self.new ≡ next (puts_of self.old) }
         ensures fails { failing_puts self.new ≡ failing_puts self.old }
     {

@@ -9,7 +9,7 @@ use Rattle.sight_names.specs.declared.names.Pt.{Pt}
 use Rattle.sight_names.specs.declared.plan.Line.{Line}
 use Rattle.sight_names.specs.Plan.{PlanParts, IsPlan}
 use Rattle.sight_names.specs.Map.{map_of, looked_up, origin}
-use Rattle.sight_names.specs.Points.{pt_eq, points_of, place, number_of, line_edge}
+use Rattle.sight_names.specs.Points.{pt_eq, points_of, place, point_number, line_edge}
 use Rattle.sight_names.proofs.PlanPoints.{plan_points, index_any}
 use Rattle.sight_names.proofs.PlanMap.{points_differ}
 use Rattle.sight_names.proofs.Records.{same_edge, same_pt}
@@ -40,7 +40,7 @@ number_at points k lt differ =
     (λ h. eq_refl (get_or points k origin).x (get_or points k origin).y) in
     grind (arith, e)
 
-pub number_of_plan : (p : PlanParts) → IsPlan p → (k : ℕ) → k < length p.points → number_of (map_of p) (slice_index_or p.points k origin) ≡ k
+pub number_of_plan : (p : PlanParts) → IsPlan p → (k : ℕ) → k < length p.points → point_number (map_of p) (slice_index_or p.points k origin) ≡ k
 number_of_plan p is k lt = subst (λ (ps : List Pt). unwrap_or (position (pt_eq (get_or p.points k origin)) ps) (length ps) ≡ k) (sym (plan_points p is))
     (number_at p.points k lt (λ j h. points_differ p is j k (omega arith) lt (omega arith)))
 

@@ -27,8 +27,8 @@ pub record IsNoisePath (m : Map) (dampers : List Bool) (a b : ℕ) (sides : List
   pub alone : a ≡ b → sides ≡ []
 
 -- a noise passes from a to b
-abbrev pub Heard : Map → List Bool → ℕ → ℕ → Type 0
-Heard m dampers a b = (sides : List Side) × IsNoisePath m dampers a b sides
+abbrev pub IsNoiseHeard : Map → List Bool → ℕ → ℕ → Type 0
+IsNoiseHeard m dampers a b = (sides : List Side) × IsNoisePath m dampers a b sides
 
 -- compared from the front
 abbrev pub SidesBefore : List Side → List Side → Type 0
@@ -46,6 +46,6 @@ pub record IsFirstNoisePath (m : Map) (dampers : List Bool) (a b : ℕ) (sides :
 -- how many pairs (a, b) of sectors with a <= b there are between which a noise passes, and between which none does
 pub record AreHeardCounts (m : Map) (dampers : List Bool) (pairs silent : ℕ) : Type 0 where
   pub hears : ℕ → ℕ → Bool
-  pub tells : (a b : ℕ) → a < m.sectors → b < m.sectors → IsTrue (hears a b) ↔ Heard m dampers a b
+  pub tells : (a b : ℕ) → a < m.sectors → b < m.sectors → IsTrue (hears a b) ↔ IsNoiseHeard m dampers a b
   pub pairs_are : pairs ≡ sum_by (λ a. count_by (hears a) (range_with_len a (m.sectors - a))) (range_with_len 0 m.sectors)
   pub silent_are : silent ≡ sum_by (λ a. count_by (λ b. not (hears a b)) (range_with_len a (m.sectors - a))) (range_with_len 0 m.sectors)

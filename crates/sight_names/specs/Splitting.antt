@@ -29,7 +29,7 @@ abbrev pub end_of : List EndPoints → ℕ → Option EndAt
 end_of es code = option_map (λ (p : Pt). record { code = code; at = p }) (if nat_lt code RIGHT_END then option_map (λ (e : EndPoints). e.left) (slice_get es code) else option_map (λ (e : EndPoints). e.right) (slice_get es (code - RIGHT_END)))
 
 -- a pair of a left and a right end of these portals, with their codes
-pub record IsPairOf (es : List EndPoints) (p : EndPair) : Type 0 where
+pub record IsEndPairOf (es : List EndPoints) (p : EndPair) : Type 0 where
   pub left_code : p.left.code < RIGHT_END
   pub right_code : RIGHT_END ≤ p.right.code
   pub left : end_of es p.left.code ≡ Some p.left

@@ -10,21 +10,21 @@ use Rattle.sight_names.specs.Ray.{ray_value, SplitsLine}
 use Rattle.sight_names.proofs.Laws.{on_segment_sym}
 use Rattle.geom_exact.specs.Formulas.{side_value, AreOnTwoSides}
 use Rattle.sight_ray.specs.declared.crossed_line.CrossedLine.{CrossedLine}
-use Rattle.sight_ray.specs.CrossedLine.{AreParted, IsCrossedLineBetween, IsCrossedLineOf, CrossingOfLine}
-use Rattle.sight_ray.specs.RayFault.{Splits, IsSplit, Crosses}
+use Rattle.sight_ray.specs.CrossedLine.{AreOnBothSides, IsCrossedLineBetween, IsCrossedLineOf, CrossingOfLine}
+use Rattle.sight_ray.specs.RayFault.{RaySplitsSide, IsSplit, CrossesSide}
 use Rattle.math_base.proofs.Small.{pos_not_neg}
 use Rattle.math_base.proofs.Options.{some_is_same}
 
 -- ---- a crossed line from the two values
-pub crossed_line_forward : (r : Ray) (p q : Pt) → AreParted (side_value r p) (side_value r q) → IsCrossedLineBetween r p q (record { left = p; right = q; first_left = true })
+pub crossed_line_forward : (r : Ray) (p q : Pt) → AreOnBothSides (side_value r p) (side_value r q) → IsCrossedLineBetween r p q (record { left = p; right = q; first_left = true })
 unfolding side_value
 crossed_line_forward r p q h = record { parts = record { left = h.0; right = h.1 }; left = refl; right = refl }
 
-pub crossed_line_back : (r : Ray) (p q : Pt) → AreParted (side_value r q) (side_value r p) → IsCrossedLineBetween r p q (record { left = q; right = p; first_left = false })
+pub crossed_line_back : (r : Ray) (p q : Pt) → AreOnBothSides (side_value r q) (side_value r p) → IsCrossedLineBetween r p q (record { left = q; right = p; first_left = false })
 unfolding side_value
 crossed_line_back r p q h = record { parts = record { left = h.0; right = h.1 }; left = refl; right = refl }
 
-pub no_crossed_line : (a b : ℤ) → ¬ AreParted a b → ¬ AreParted b a → ¬ AreOnTwoSides a b
+pub no_crossed_line : (a b : ℤ) → ¬ AreOnBothSides a b → ¬ AreOnBothSides b a → ¬ AreOnTwoSides a b
 no_crossed_line a b n m (inl h) = n h
 no_crossed_line a b n m (inr h) = m (h.1, h.0)
 
@@ -37,7 +37,7 @@ splits_by : (r : Ray) (l : MapLine) (b : Bool) (left right : Pt) → pos 0 <ℤ 
 splits_by r l true left right hl hr e f = (subst (λ (p : Pt). pos 0 <ℤ ray_value r (point_of p)) e hl, subst (λ (p : Pt). ray_value r (point_of p) <ℤ pos 0) f hr)
 splits_by r l false left right hl hr e f = (subst (λ (p : Pt). ray_value r (point_of p) <ℤ pos 0) f hr, subst (λ (p : Pt). pos 0 <ℤ ray_value r (point_of p)) e hl)
 
-pub crossed_line_splits : (m : Map) (r : Ray) (s : Side) (g : CrossedLine) → IsCrossedLineOf m r s g → Splits m r s g.first_left
+pub crossed_line_splits : (m : Map) (r : Ray) (s : Side) (g : CrossedLine) → IsCrossedLineOf m r s g → RaySplitsSide m r s g.first_left
 crossed_line_splits m r s g h = record { line = h.line; is = h.is; ends = splits_by r h.line g.first_left g.left g.right h.crossed_line.parts.left h.crossed_line.parts.right h.crossed_line.left h.crossed_line.right }
 
 two_of : (r : Ray) (l : MapLine) (b : Bool) → SplitsLine r l b → AreOnTwoSides (side_value r l.first) (side_value r l.second)
@@ -53,7 +53,7 @@ one_way : (r : Ray) (l : MapLine) (b : Bool) → SplitsLine r l b → SplitsLine
 one_way r l true h k = let a = h.0 in let b = k.0 in pos_not_neg _ a b
 one_way r l false h k = let a = h.0 in let b = k.0 in pos_not_neg _ b a
 
-pub one_split : (m : Map) (r : Ray) (s : Side) (b : Bool) → Splits m r s b → Splits m r s (not b) → ⊥
+pub one_split : (m : Map) (r : Ray) (s : Side) (b : Bool) → RaySplitsSide m r s b → RaySplitsSide m r s (not b) → ⊥
 one_split m r s b h k = one_way r h.line b h.ends (subst (λ (l : MapLine). SplitsLine r l (not b)) (same_line m s.line k.line h.line k.is h.is) k.ends)
 
 pub beq_true : (a b : Bool) → beq a b ≡ true → a ≡ b
@@ -80,7 +80,7 @@ at_line l true left right z e f o = subst (λ (p : Pt). OnSegment (point_of p) (
 at_line l false left right z e f o =
     on_segment_sym (point_of l.second) (point_of l.first) z (subst (λ (p : Pt). OnSegment (point_of p) (point_of l.first) z) e (subst (λ (p : Pt). OnSegment (point_of left) (point_of p) z) f o))
 
-pub line_crosses : (m : Map) (r : Ray) (s : Side) (g : CrossedLine) (z : Point) → IsCrossedLineOf m r s g → CrossingOfLine r g z → Crosses m r s z
+pub line_crosses : (m : Map) (r : Ray) (s : Side) (g : CrossedLine) (z : Point) → IsCrossedLineOf m r s g → CrossingOfLine r g z → CrossesSide m r s z
 line_crosses m r s g z h c = record { line = h.line; is = h.is; crossing = (at_line h.line g.first_left g.left g.right z h.crossed_line.left h.crossed_line.right c.0, c.1) }
 
 -- ---- the answers of the code

@@ -13,7 +13,7 @@ use Rattle.mesh_base.proofs.SightLaws.Plans.{line_below}
 use Rattle.mesh_base.proofs.SightLaws.Rays.{crossing_there, crossing_only, not_both, not_behind_same, segment_same}
 use Rattle.sight_ray.specs.declared.crossed_line.CrossedLine.{CrossedLine}
 use Rattle.sight_ray.specs.CrossedLine.{IsCrossedLineOf, CrossingOfLine, AllBehind, AllInOrder, IsFirstHit, AreClearBelow}
-use Rattle.sight_ray.specs.RayFault.{Splits, IsSplit, Leaves, Arrives, Crosses, HasNames, HasSplits, HasCrossings, IsBehind, IsBlocked, IsRayFault}
+use Rattle.sight_ray.specs.RayFault.{RaySplitsSide, IsSplit, Leaves, Arrives, CrossesSide, HasNames, HasSplits, HasCrossings, IsPointBehind, IsRayBlocked, IsRayFault}
 use Rattle.sight_ray.proofs.CrossedLineLemmas.{same_line, crossed_line_splits, one_split, line_crosses}
 use Rattle.sight_ray.proofs.HitLemmas.{parts_of}
 use Rattle.math_base.proofs.Options.{one_value, is_not_there, is_there}
@@ -24,7 +24,7 @@ names_of m r a b h e f = record { range = h; from = is_there (named m r.first) a
 
 -- ---- from crossed lines to ways
 pub leaves_by : (m : Map) (r : Ray) (g : CrossedLine) → IsCrossedLineOf m r r.first g → g.first_left ≡ not r.first.left → Leaves m r
-leaves_by m r g h e = subst (λ (b : Bool). Splits m r r.first b) e (crossed_line_splits m r r.first g h)
+leaves_by m r g h e = subst (λ (b : Bool). RaySplitsSide m r r.first b) e (crossed_line_splits m r r.first g h)
 
 splits_both : (m : Map) (r : Ray) (g h : CrossedLine) → HasNames m r → IsCrossedLineOf m r r.first g → IsCrossedLineOf m r r.last h → HasSplits m r
 splits_both m r g h names gg gh = record { names = names; first = (g.first_left, crossed_line_splits m r r.first g gg); last = (h.first_left, crossed_line_splits m r r.last h gh) }
@@ -33,10 +33,10 @@ pub last_unsplit : (m : Map) (r : Ray) (g : CrossedLine) → HasNames m r → Is
 last_unsplit m r g names gg n = (names, inr (refl, (g.first_left, crossed_line_splits m r r.first g gg), n))
 
 pub wrong_first : (m : Map) (r : Ray) (g h : CrossedLine) → HasNames m r → IsCrossedLineOf m r r.first g → IsCrossedLineOf m r r.last h → g.first_left ≡ r.first.left → IsRayFault m r (WrongWay r.first.line)
-wrong_first m r g h names gg gh e = (splits_both m r g h names gg gh, inl (refl, (λ k. one_split m r r.first r.first.left (subst (λ (b : Bool). Splits m r r.first b) e (crossed_line_splits m r r.first g gg)) k)))
+wrong_first m r g h names gg gh e = (splits_both m r g h names gg gh, inl (refl, (λ k. one_split m r r.first r.first.left (subst (λ (b : Bool). RaySplitsSide m r r.first b) e (crossed_line_splits m r r.first g gg)) k)))
 
 pub wrong_last : (m : Map) (r : Ray) (g h : CrossedLine) → HasNames m r → IsCrossedLineOf m r r.first g → IsCrossedLineOf m r r.last h → g.first_left ≡ not r.first.left → h.first_left ≡ not r.last.left → IsRayFault m r (WrongWay r.last.line)
-wrong_last m r g h names gg gh e f = (splits_both m r g h names gg gh, inr (refl, leaves_by m r g gg e, (λ k. one_split m r r.last r.last.left k (subst (λ (b : Bool). Splits m r r.last b) f (crossed_line_splits m r r.last h gh)))))
+wrong_last m r g h names gg gh e f = (splits_both m r g h names gg gh, inr (refl, leaves_by m r g gg e, (λ k. one_split m r r.last r.last.left k (subst (λ (b : Bool). RaySplitsSide m r r.last b) f (crossed_line_splits m r r.last h gh)))))
 
 -- ---- from crossed lines to crossings
 pub crossings_of : (m : Map) (r : Ray) (g h : CrossedLine) → HasNames m r → IsCrossedLineOf m r r.first g → IsCrossedLineOf m r r.last h → Leaves m r → Arrives m r → (s t : Point) → CrossingOfLine r g s → CrossingOfLine r h t → HasCrossings m r s t
@@ -103,10 +103,10 @@ sight p r g h a b range from to gg gh leaves arrives f clear =
     }
 
 -- ---- the crossings of a side are one point
-one_crossing : (m : Map) (r : Ray) (s : Side) (b : Bool) (z w : Point) → Splits m r s b → Crosses m r s z → Crosses m r s w → SamePoint z w
+one_crossing : (m : Map) (r : Ray) (s : Side) (b : Bool) (z w : Point) → RaySplitsSide m r s b → CrossesSide m r s z → CrossesSide m r s w → SamePoint z w
 one_crossing m r s b z w h c d = at_line b h.line h.ends (moved z c) (moved w d)
   where
-    moved : (z : Point) → Crosses m r s z → IsCrossing r h.line z
+    moved : (z : Point) → CrossesSide m r s z → IsCrossing r h.line z
     moved z c = subst (λ (l : MapLine). IsCrossing r l z) (same_line m s.line c.line h.line c.is h.is) c.crossing
 
     at_line : (b : Bool) (l : MapLine) → SplitsLine r l b → IsCrossing r l z → IsCrossing r l w → SamePoint z w
@@ -144,7 +144,7 @@ split_last : (m : Map) (r : Ray) (s t : Point) → HasCrossings m r s t → IsSp
 split_last m r s t h = (r.last.left, h.arrives)
 
 -- the order of the crossings is one
-pub one_order : (m : Map) (r : Ray) (s t u v : Point) → HasCrossings m r s t → HasCrossings m r u v → NotBehind r s t → IsBehind r u v → ⊥
+pub one_order : (m : Map) (r : Ray) (s t u v : Point) → HasCrossings m r s t → HasCrossings m r u v → NotBehind r s t → IsPointBehind r u v → ⊥
 one_order m r s t u v h k f b = not_both r u v (not_behind_same r s t u v (one_crossing m r r.first _ s u h.leaves h.starts k.starts) (one_crossing m r r.last _ t v h.arrives h.stops k.stops) f) b
 
 -- ---- a sight ray has no fault
@@ -214,7 +214,7 @@ one_wrong m r i j (a, inl h) (b, inr k) = absurd (h.1 k.1)
 one_wrong m r i j (a, inr h) (b, inl k) = absurd (k.1 h.1)
 one_wrong m r i j (a, inr h) (b, inr k) = h.0 ∙ sym k.0
 
-not_below : (m : Map) (r : Ray) (i j : ℕ) → IsBlocked m r i → IsBlocked m r j → i < j → ⊥
+not_below : (m : Map) (r : Ray) (i j : ℕ) → IsRayBlocked m r i → IsRayBlocked m r j → i < j → ⊥
 not_below m r i j h k lt =
     let c = h.crossings in
     let d = k.crossings in
@@ -222,7 +222,7 @@ not_below m r i j h k lt =
     (segment_same h.start h.stop k.start k.stop h.point (one_crossing m r r.first _ h.start k.start c.leaves c.starts d.starts) (one_crossing m r r.last _ h.stop k.stop c.arrives c.stops d.stops) h.on_stretch)
     h.on_line
 
-one_blocked : (m : Map) (r : Ray) (i j : ℕ) → IsBlocked m r i → IsBlocked m r j → i ≡ j
+one_blocked : (m : Map) (r : Ray) (i j : ℕ) → IsRayBlocked m r i → IsRayBlocked m r j → i ≡ j
 one_blocked m r i j h k = elim (below_same_or_above i j) as (λ _. i ≡ j) [
   | inl lt ↦ absurd (not_below m r i j h k lt)
   | inr c ↦ elim c as (λ _. i ≡ j) [ inl e ↦ e | inr lt ↦ absurd (not_below m r j i k h lt) ]

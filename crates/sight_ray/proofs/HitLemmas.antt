@@ -14,7 +14,7 @@ use Rattle.geom_exact.proofs.SegmentLemmas.{turn_is_at}
 use Rattle.geom_exact.proofs.CrossingLemmas.{crossing_exists}
 use Rattle.mesh_base.proofs.SightLaws.Rays.{Behind, Parts, HasDirection, order, not_both, behind_not, parts_direction, on_stretch, stretch_on_ray, stretch_after, stretch_before, turn_not_before, turn_before, turn_not_behind, turn_behind, all_before, all_behind, alone_on, only_end}
 use Rattle.sight_ray.specs.declared.crossed_line.CrossedLine.{CrossedLine}
-use Rattle.sight_ray.specs.CrossedLine.{IsCrossedLine, CrossingOfLine, IsForward, IsHit, IsClear, ReachesStart, ReachesStop, IsMet, IsPassed, AllBehind, AllInOrder, IsHitAt, IsClearAt}
+use Rattle.sight_ray.specs.CrossedLine.{IsCrossedLine, CrossingOfLine, IsForward, IsHit, IsStretchClear, ReachesStart, ReachesStop, IsMet, IsStretchPassed, AllBehind, AllInOrder, IsHitAt, IsClearAt}
 use Rattle.sight_ray.proofs.CrossedLineLemmas.{same_line}
 use Rattle.math_base.proofs.Options.{none_is_not_some}
 
@@ -70,13 +70,13 @@ met_hits r g h p q gg gh fw ep eq m s t cs ct = cases m.0 m.1
     cases (inr a) (inl b) = swap s t p q (overlap r s t q p hn cs.1 ct.1 eq ep f (not_before r g s q gg cs eq a) (not_after r h t p gh ct ep b))
     cases (inr a) (inr b) = swap s t p q (point_of q, on_stretch r s t (point_of q) hn cs.1 ct.1 eq (not_before r g s q gg cs eq a) (not_after r h t q gh ct eq b), start_on (point_of q) (point_of p))
 
-pub passed_clears : (r : Ray) (g h : CrossedLine) (p q : Pt) → IsCrossedLine r g → IsCrossedLine r h → IsForward r g h → ray_value r (point_of p) ≡ pos 0 → ray_value r (point_of q) ≡ pos 0 → IsPassed g h p q → IsClear r g h p q
+pub passed_clears : (r : Ray) (g h : CrossedLine) (p q : Pt) → IsCrossedLine r g → IsCrossedLine r h → IsForward r g h → ray_value r (point_of p) ≡ pos 0 → ray_value r (point_of q) ≡ pos 0 → IsStretchPassed g h p q → IsStretchClear r g h p q
 passed_clears r g h p q gg gh fw ep eq m s t z cs ct on_stretch on_line = cases m
   where
     f : NotBehind r s t
     f = fw s t cs ct
 
-    cases : IsPassed g h p q → ⊥
+    cases : IsStretchPassed g h p q → ⊥
     cases (inl a) = not_both r s z (stretch_after r s t z f on_stretch) (all_before r s (point_of p) (point_of q) z (before r g s p gg cs ep a.0) (before r g s q gg cs eq a.1) on_line)
     cases (inr a) = not_both r z t (stretch_before r s t z f on_stretch) (all_behind r t (point_of p) (point_of q) z (after r h t p gh ct ep a.0) (after r h t q gh ct eq a.1) on_line)
 
@@ -84,17 +84,17 @@ passed_clears r g h p q gg gh fw ep eq m s t z cs ct on_stretch on_line = cases 
 pub end_hits : (r : Ray) (g h : CrossedLine) (p q : Pt) → IsHit r g h p p → IsHit r g h p q
 end_hits r g h p q hit s t cs ct = let w = hit s t cs ct in (w.0, w.1, alone_on (point_of p) (point_of q) w.0 w.2)
 
-pub end_clears : (r : Ray) (g h : CrossedLine) (p q : Pt) → ray_value r (point_of p) ≡ pos 0 → ¬ (ray_value r (point_of q) ≡ pos 0) → IsClear r g h p p → IsClear r g h p q
+pub end_clears : (r : Ray) (g h : CrossedLine) (p q : Pt) → ray_value r (point_of p) ≡ pos 0 → ¬ (ray_value r (point_of q) ≡ pos 0) → IsStretchClear r g h p p → IsStretchClear r g h p q
 end_clears r g h p q ep nq clear s t z cs ct a b = clear s t z cs ct a (only_end r (point_of p) (point_of q) z ep nq b (stretch_on_ray r s t z cs.1 ct.1 a))
 
 pub hit_turned : (r : Ray) (g h : CrossedLine) (p q : Pt) → IsHit r g h q p → IsHit r g h p q
 hit_turned r g h p q hit s t cs ct = swap s t p q (hit s t cs ct)
 
-pub clear_turned : (r : Ray) (g h : CrossedLine) (p q : Pt) → IsClear r g h q p → IsClear r g h p q
+pub clear_turned : (r : Ray) (g h : CrossedLine) (p q : Pt) → IsStretchClear r g h q p → IsStretchClear r g h p q
 clear_turned r g h p q clear s t z cs ct a b = clear s t z cs ct a (on_segment_sym (point_of p) (point_of q) z b)
 
 -- ---- a segment strictly on one side
-pub beside_clears : (r : Ray) (g h : CrossedLine) (p q : Pt) → AreOnOneSide (side_value r p) (side_value r q) → IsClear r g h p q
+pub beside_clears : (r : Ray) (g h : CrossedLine) (p q : Pt) → AreOnOneSide (side_value r p) (side_value r q) → IsStretchClear r g h p q
 unfolding side_value
 beside_clears r g h p q (inl k) s t z cs ct a b =
     let e = stretch_on_ray r s t z cs.1 ct.1 a in
@@ -122,10 +122,10 @@ between_hits r g h p q gg two a b s t cs ct =
     let x = crossing_exists r p q two in
     (x.0, on_stretch r s t x.0 (direction r g gg) cs.1 ct.1 x.1.1 (a s x.0 cs x.1) (b x.0 t x.1 ct), x.1.0)
 
-pub early_clears : (r : Ray) (g h : CrossedLine) (p q : Pt) → IsForward r g h → AllBehind r g.left g.right p q → IsClear r g h p q
+pub early_clears : (r : Ray) (g h : CrossedLine) (p q : Pt) → IsForward r g h → AllBehind r g.left g.right p q → IsStretchClear r g h p q
 early_clears r g h p q fw a s t z cs ct o l = not_both r s z (stretch_after r s t z (fw s t cs ct) o) (a s z cs (l, stretch_on_ray r s t z cs.1 ct.1 o))
 
-pub late_clears : (r : Ray) (g h : CrossedLine) (p q : Pt) → IsForward r g h → AllBehind r p q h.left h.right → IsClear r g h p q
+pub late_clears : (r : Ray) (g h : CrossedLine) (p q : Pt) → IsForward r g h → AllBehind r p q h.left h.right → IsStretchClear r g h p q
 late_clears r g h p q fw a s t z cs ct o l = not_both r z t (stretch_before r s t z (fw s t cs ct) o) (a z t (l, stretch_on_ray r s t z cs.1 ct.1 o) ct)
 
 -- ---- the answers of the code
@@ -161,23 +161,23 @@ unfolding side_value
 off_ray r p n e = n e
 
 -- both ends on the ray's line
-pub met_both : (r : Ray) (g h : CrossedLine) (p q : Pt) (b : Bool) → IsCrossedLine r g → IsCrossedLine r h → IsForward r g h → side_value r p ≡ pos 0 → side_value r q ≡ pos 0 → MatchBool b (IsMet g h p q) (IsPassed g h p q) → MatchBool b (IsHit r g h p q) (IsClear r g h p q)
+pub met_both : (r : Ray) (g h : CrossedLine) (p q : Pt) (b : Bool) → IsCrossedLine r g → IsCrossedLine r h → IsForward r g h → side_value r p ≡ pos 0 → side_value r q ≡ pos 0 → MatchBool b (IsMet g h p q) (IsStretchPassed g h p q) → MatchBool b (IsHit r g h p q) (IsStretchClear r g h p q)
 met_both r g h p q b gg gh fw ep eq = match_map b _ _ _ _ (met_hits r g h p q gg gh fw (on_ray r p ep) (on_ray r q eq)) (passed_clears r g h p q gg gh fw (on_ray r p ep) (on_ray r q eq))
 
 -- the first end alone
-pub met_first : (r : Ray) (g h : CrossedLine) (p q : Pt) (b : Bool) → IsCrossedLine r g → IsCrossedLine r h → IsForward r g h → side_value r p ≡ pos 0 → ¬ (side_value r q ≡ pos 0) → MatchBool b (IsMet g h p p) (IsPassed g h p p) → MatchBool b (IsHit r g h p q) (IsClear r g h p q)
+pub met_first : (r : Ray) (g h : CrossedLine) (p q : Pt) (b : Bool) → IsCrossedLine r g → IsCrossedLine r h → IsForward r g h → side_value r p ≡ pos 0 → ¬ (side_value r q ≡ pos 0) → MatchBool b (IsMet g h p p) (IsStretchPassed g h p p) → MatchBool b (IsHit r g h p q) (IsStretchClear r g h p q)
 met_first r g h p q b gg gh fw ep nq m = match_map b _ _ _ _ (end_hits r g h p q) (end_clears r g h p q (on_ray r p ep) (off_ray r q nq)) (met_both r g h p p b gg gh fw ep ep m)
 
 -- the second end alone
-pub met_second : (r : Ray) (g h : CrossedLine) (p q : Pt) (b : Bool) → IsCrossedLine r g → IsCrossedLine r h → IsForward r g h → ¬ (side_value r p ≡ pos 0) → side_value r q ≡ pos 0 → MatchBool b (IsMet g h q q) (IsPassed g h q q) → MatchBool b (IsHit r g h p q) (IsClear r g h p q)
+pub met_second : (r : Ray) (g h : CrossedLine) (p q : Pt) (b : Bool) → IsCrossedLine r g → IsCrossedLine r h → IsForward r g h → ¬ (side_value r p ≡ pos 0) → side_value r q ≡ pos 0 → MatchBool b (IsMet g h q q) (IsStretchPassed g h q q) → MatchBool b (IsHit r g h p q) (IsStretchClear r g h p q)
 met_second r g h p q b gg gh fw np eq m = match_map b _ _ _ _ (hit_turned r g h p q) (clear_turned r g h p q) (met_first r g h q p b gg gh fw eq np m)
 
 -- the line with this number
 pub hit_or_clear : (m : Map) (r : Ray) (g h : CrossedLine) (i : ℕ) (l : MapLine) (p q : Pt) (b : Bool) → line_at m i ≡ Some l → IsTrue l.solid → p ≡ l.first → q ≡ l.second
-    → MatchBool b (IsHit r g h p q) (IsClear r g h p q) → MatchBool b (IsHitAt m r g h i) (IsClearAt m r g h i)
+    → MatchBool b (IsHit r g h p q) (IsStretchClear r g h p q) → MatchBool b (IsHitAt m r g h i) (IsClearAt m r g h i)
 hit_or_clear m r g h i l p q b e solid f k = match_map b _ _ _ _
     (λ hit. record { line = l; is = e; solid = solid; hit = subst (λ (x : Pt). IsHit r g h x l.second) f (subst (λ (x : Pt). IsHit r g h p x) k hit) })
-    (λ clear n is _. subst (λ (x : MapLine). IsClear r g h x.first x.second) (same_line m i l n e is) (subst (λ (x : Pt). IsClear r g h x l.second) f (subst (λ (x : Pt). IsClear r g h p x) k clear)))
+    (λ clear n is _. subst (λ (x : MapLine). IsStretchClear r g h x.first x.second) (same_line m i l n e is) (subst (λ (x : Pt). IsStretchClear r g h x l.second) f (subst (λ (x : Pt). IsStretchClear r g h p x) k clear)))
 
 pub none_clear : (m : Map) (r : Ray) (g h : CrossedLine) (i : ℕ) → line_at m i ≡ None → IsClearAt m r g h i
 none_clear m r g h i e l is solid = absurd (none_is_not_some l (sym e ∙ is))

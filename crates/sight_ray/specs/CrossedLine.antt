@@ -9,15 +9,15 @@ use Rattle.sight_names.specs.Ray.{NotBehind, ray_value}
 use Rattle.geom_exact.specs.Crossings.{IsCrossingOf}
 use Rattle.geom_exact.specs.Formulas.{turn_of}
 use Rattle.sight_ray.specs.declared.crossed_line.CrossedLine.{CrossedLine}
-use Rattle.sight_ray.specs.RayFault.{IsBehind}
+use Rattle.sight_ray.specs.RayFault.{IsPointBehind}
 
 -- the left end is strictly on the ray's left, the right end strictly on its right
 pub record IsCrossedLine (r : Ray) (g : CrossedLine) : Type 0 where
   pub left : pos 0 <ℤ ray_value r (point_of g.left)
   pub right : ray_value r (point_of g.right) <ℤ pos 0
 
-abbrev pub AreParted : ℤ → ℤ → Type 0
-AreParted a b = (pos 0 <ℤ a) × (b <ℤ pos 0)
+abbrev pub AreOnBothSides : ℤ → ℤ → Type 0
+AreOnBothSides a b = (pos 0 <ℤ a) × (b <ℤ pos 0)
 
 -- the crossed line is the segment from p to q, which the ray splits
 pub record IsCrossedLineBetween (r : Ray) (p q : Pt) (g : CrossedLine) : Type 0 where
@@ -44,8 +44,8 @@ abbrev pub IsHit : Ray → CrossedLine → CrossedLine → Pt → Pt → Type 0
 IsHit r g h p q = (s t : Point) → CrossingOfLine r g s → CrossingOfLine r h t → (z : Point) × OnSegment s t z × OnSegment (point_of p) (point_of q) z
 
 -- it has none
-abbrev pub IsClear : Ray → CrossedLine → CrossedLine → Pt → Pt → Type 0
-IsClear r g h p q = (s t z : Point) → CrossingOfLine r g s → CrossingOfLine r h t → OnSegment s t z → OnSegment (point_of p) (point_of q) z → ⊥
+abbrev pub IsStretchClear : Ray → CrossedLine → CrossedLine → Pt → Pt → Type 0
+IsStretchClear r g h p q = (s t z : Point) → CrossingOfLine r g s → CrossingOfLine r h t → OnSegment s t z → OnSegment (point_of p) (point_of q) z → ⊥
 
 -- the line with this number is solid and has a point of the stretch
 pub record IsHitAt (m : Map) (r : Ray) (g h : CrossedLine) (number : ℕ) : Type 0 where
@@ -56,7 +56,7 @@ pub record IsHitAt (m : Map) (r : Ray) (g h : CrossedLine) (number : ℕ) : Type
 
 -- if it is a solid line, it has none
 abbrev pub IsClearAt : Map → Ray → CrossedLine → CrossedLine → ℕ → Type 0
-IsClearAt m r g h number = (l : MapLine) → line_at m number ≡ Some l → IsTrue l.solid → IsClear r g h l.first l.second
+IsClearAt m r g h number = (l : MapLine) → line_at m number ≡ Some l → IsTrue l.solid → IsStretchClear r g h l.first l.second
 
 -- no line below this number is solid and has one
 abbrev pub AreClearBelow : Map → Ray → CrossedLine → CrossedLine → ℕ → Type 0
@@ -69,15 +69,15 @@ pub record IsFirstHit (m : Map) (r : Ray) (g h : CrossedLine) (number : ℕ) : T
 
 -- the crossing with the first segment is strictly behind that with the second
 abbrev pub AllBehind : Ray → Pt → Pt → Pt → Pt → Type 0
-AllBehind r l1 l2 m1 m2 = (z w : Point) → IsCrossingOf r l1 l2 z → IsCrossingOf r m1 m2 w → IsBehind r z w
+AllBehind r l1 l2 m1 m2 = (z w : Point) → IsCrossingOf r l1 l2 z → IsCrossingOf r m1 m2 w → IsPointBehind r z w
 
 -- it isn't
 abbrev pub AllInOrder : Ray → Pt → Pt → Pt → Pt → Type 0
 AllInOrder r l1 l2 m1 m2 = (z w : Point) → IsCrossingOf r l1 l2 z → IsCrossingOf r m1 m2 w → NotBehind r z w
 
 -- two points of the ray that are both before the crossing with the crossed line, or not both
-abbrev pub AreBefore : CrossedLine → Pt → Pt → Type 0
-AreBefore g p q = (turn_of g.left g.right p <ℤ pos 0) × (turn_of g.left g.right q <ℤ pos 0)
+abbrev pub AreBeforeLine : CrossedLine → Pt → Pt → Type 0
+AreBeforeLine g p q = (turn_of g.left g.right p <ℤ pos 0) × (turn_of g.left g.right q <ℤ pos 0)
 
 abbrev pub ReachesStart : CrossedLine → Pt → Pt → Type 0
 ReachesStart g p q = (pos 0 ≤ℤ turn_of g.left g.right p) ⊎ (pos 0 ≤ℤ turn_of g.left g.right q)
@@ -93,5 +93,5 @@ ReachesStop g p q = (turn_of g.left g.right p ≤ℤ pos 0) ⊎ (turn_of g.left 
 abbrev pub IsMet : CrossedLine → CrossedLine → Pt → Pt → Type 0
 IsMet g h p q = ReachesStart g p q × ReachesStop h p q
 
-abbrev pub IsPassed : CrossedLine → CrossedLine → Pt → Pt → Type 0
-IsPassed g h p q = AreBefore g p q ⊎ AreAfter h p q
+abbrev pub IsStretchPassed : CrossedLine → CrossedLine → Pt → Pt → Type 0
+IsStretchPassed g h p q = AreBeforeLine g p q ⊎ AreAfter h p q

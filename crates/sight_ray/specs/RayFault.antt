@@ -11,24 +11,24 @@ use Rattle.sight_names.specs.Path.{OnLine, Misses}
 use Rattle.sight_names.specs.Ray.{IsInRange, SplitsLine, NotBehind, IsCrossing, along}
 
 -- the ends of the side's line are strictly on different sides of the ray; the first end is on its left if the Bool is true
-pub record Splits (m : Map) (r : Ray) (s : Side) (first_left : Bool) : Type 0 where
+pub record RaySplitsSide (m : Map) (r : Ray) (s : Side) (first_left : Bool) : Type 0 where
   pub line : MapLine
   pub is : line_at m s.line ≡ Some line
   pub ends : SplitsLine r line first_left
 
 abbrev pub IsSplit : Map → Ray → Side → Type 0
-IsSplit m r s = (first_left : Bool) × Splits m r s first_left
+IsSplit m r s = (first_left : Bool) × RaySplitsSide m r s first_left
 
 -- the ray leaves the side first: the first end of its line is on the left if first is a right side
 abbrev pub Leaves : Map → Ray → Type 0
-Leaves m r = Splits m r r.first (not r.first.left)
+Leaves m r = RaySplitsSide m r r.first (not r.first.left)
 
 -- the ray arrives on the side last: the first end of its line is on the left if last is a left side
 abbrev pub Arrives : Map → Ray → Type 0
-Arrives m r = Splits m r r.last r.last.left
+Arrives m r = RaySplitsSide m r r.last r.last.left
 
 -- p is where the ray crosses the side's line
-pub record Crosses (m : Map) (r : Ray) (s : Side) (p : Point) : Type 0 where
+pub record CrossesSide (m : Map) (r : Ray) (s : Side) (p : Point) : Type 0 where
   pub line : MapLine
   pub is : line_at m s.line ≡ Some line
   pub crossing : IsCrossing r line p
@@ -50,15 +50,15 @@ pub record HasCrossings (m : Map) (r : Ray) (start stop : Point) : Type 0 where
   pub names : HasNames m r
   pub leaves : Leaves m r
   pub arrives : Arrives m r
-  pub starts : Crosses m r r.first start
-  pub stops : Crosses m r r.last stop
+  pub starts : CrossesSide m r r.first start
+  pub stops : CrossesSide m r r.last stop
 
 -- p is strictly behind q along the ray
-abbrev pub IsBehind : Ray → Point → Point → Type 0
-IsBehind r p q = (along r q *ℤ pos p.d) <ℤ (along r p *ℤ pos q.d)
+abbrev pub IsPointBehind : Ray → Point → Point → Type 0
+IsPointBehind r p q = (along r q *ℤ pos p.d) <ℤ (along r p *ℤ pos q.d)
 
 -- this solid line has a point of the stretch, and no solid line with a smaller record number has one
-pub record IsBlocked (m : Map) (r : Ray) (number : ℕ) : Type 0 where
+pub record IsRayBlocked (m : Map) (r : Ray) (number : ℕ) : Type 0 where
   pub start : Point
   pub stop : Point
   pub crossings : HasCrossings m r start stop
@@ -81,6 +81,6 @@ IsRayFault m r (NotSplit number) = HasNames m r × (((number ≡ r.first.line) �
 -- the ray doesn't leave first, then doesn't arrive on last
 IsRayFault m r (WrongWay number) = HasSplits m r × (((number ≡ r.first.line) × ¬ Leaves m r) ⊎ ((number ≡ r.last.line) × Leaves m r × ¬ Arrives m r))
 -- the crossing with last's line comes strictly before that with first's
-IsRayFault m r Backwards = (start stop : Point) × HasCrossings m r start stop × IsBehind r start stop
+IsRayFault m r Backwards = (start stop : Point) × HasCrossings m r start stop × IsPointBehind r start stop
 -- the least solid line that has a point of the stretch
-IsRayFault m r (Blocked number) = IsBlocked m r number
+IsRayFault m r (Blocked number) = IsRayBlocked m r number

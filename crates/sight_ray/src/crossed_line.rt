@@ -5,7 +5,7 @@ ghost use Rattle.sight_names.specs.Map.{map_of, looked_up};
 ghost use Rattle.sight_names.specs.Plan.{IsPlanLine};
 ghost use Rattle.sight_names.specs.Ray.{IsInRange};
 ghost use Rattle.geom_exact.specs.Formulas.{AreOnOneSide, AreOnTwoSides, side_value};
-ghost use Rattle.sight_ray.specs.CrossedLine.{IsCrossedLine, IsCrossedLineBetween, IsCrossedLineOf, AreParted, IsForward, IsHit, IsClear, IsHitAt, IsFirstHit, AreClearBelow, IsClearAt, AreBefore, ReachesStart, AreAfter, ReachesStop, IsMet, IsPassed, AllBehind, AllInOrder};
+ghost use Rattle.sight_ray.specs.CrossedLine.{IsCrossedLine, IsCrossedLineBetween, IsCrossedLineOf, AreOnBothSides, IsForward, IsHit, IsStretchClear, IsHitAt, IsFirstHit, AreClearBelow, IsClearAt, AreBeforeLine, ReachesStart, AreAfter, ReachesStop, IsMet, IsStretchPassed, AllBehind, AllInOrder};
 ghost use Rattle.sight_ray.specs.RayFault.{IsSplit};
 
 use geom_exact::{cross_order, side_of, turn};
@@ -65,7 +65,7 @@ fn crossed_line_between(ray: &Ray, first: Pt, second: Pt) -> Option<CrossedLine>
 
 /// Whether the first number is above 0 and the second below.
 fn are_parted(left: i64, right: i64) -> bool
-    ensures { MatchBool result (AreParted left right) (¬ AreParted left right) }
+    ensures { MatchBool result (AreOnBothSides left right) (¬ AreOnBothSides left right) }
 {
     left > 0 && right < 0
 }
@@ -136,7 +136,7 @@ fn is_hit(ray: &Ray, start: CrossedLine, stop: CrossedLine, p: Pt, q: Pt) -> boo
     requires start_split { IsCrossedLine ray.now start }
     requires stop_split { IsCrossedLine ray.now stop }
     requires forward { IsForward ray.now start stop }
-    ensures { MatchBool result (IsHit ray.now start stop p q) (IsClear ray.now start stop p q) }
+    ensures { MatchBool result (IsHit ray.now start stop p q) (IsStretchClear ray.now start stop p q) }
 {
     let from = side_of(ray, p);
     let to = side_of(ray, q);
@@ -168,7 +168,7 @@ fn is_between(ray: &Ray, start: CrossedLine, stop: CrossedLine, p: Pt, q: Pt) ->
     requires stop_split { IsCrossedLine ray.now stop }
     requires forward { IsForward ray.now start stop }
     requires split { AreOnTwoSides (side_value ray.now p) (side_value ray.now q) }
-    ensures { MatchBool result (IsHit ray.now start stop p q) (IsClear ray.now start stop p q) }
+    ensures { MatchBool result (IsHit ray.now start stop p q) (IsStretchClear ray.now start stop p q) }
 {
     if is_behind(ray, start.left, start.right, p, q) {
         return false;
@@ -178,7 +178,7 @@ fn is_between(ray: &Ray, start: CrossedLine, stop: CrossedLine, p: Pt, q: Pt) ->
 
 /// Whether one of two points of the ray isn't before the first crossing, and one isn't behind the second.
 fn is_met(start: CrossedLine, stop: CrossedLine, p: Pt, q: Pt) -> bool
-    ensures { MatchBool result (IsMet start stop p q) (IsPassed start stop p q) }
+    ensures { MatchBool result (IsMet start stop p q) (IsStretchPassed start stop p q) }
 {
     if are_before(start, p, q) {
         return false;
@@ -187,7 +187,7 @@ fn is_met(start: CrossedLine, stop: CrossedLine, p: Pt, q: Pt) -> bool
 }
 
 fn are_before(crossed_line: CrossedLine, p: Pt, q: Pt) -> bool
-    ensures { MatchBool result (AreBefore crossed_line p q) (ReachesStart crossed_line p q) }
+    ensures { MatchBool result (AreBeforeLine crossed_line p q) (ReachesStart crossed_line p q) }
 {
     turn(crossed_line.left, crossed_line.right, p) < 0
         && turn(crossed_line.left, crossed_line.right, q) < 0

@@ -9,9 +9,9 @@ ghost use Rattle.sight_names.specs.Plan.{IsPlan};
 ghost use Rattle.sight_names.specs.Points.{reverse_of};
 ghost use Rattle.sight_names.specs.Ray.{IsInRange};
 ghost use Rattle.sight_names.specs.Sequence.{entry_edge, root_portal};
-ghost use Rattle.sight_ray.specs.RayTrace.First.{IsClear, IsFirstFault};
-ghost use Rattle.sight_ray.specs.RayTrace.CrossedEdges.{portal_of};
-ghost use Rattle.sight_ray.specs.RayTrace.Trace.{Crosses, HasLabelledTriangle, HasThirdPoint, IsBadRay, IsFirstPortal, IsLastPortal, IsLeastWall, IsOpen, IsTipFault, IsTrace, IsTraceFault, IsTraceable, IsWall, IsWallFault, IsWayOut, opposite as opposite_of};
+ghost use Rattle.sight_ray.specs.RayTrace.First.{IsRayClear, IsFirstTraceFault};
+ghost use Rattle.sight_ray.specs.RayTrace.CrossedEdges.{portal_crossed};
+ghost use Rattle.sight_ray.specs.RayTrace.Trace.{CrossesPortal, HasLabelledTriangle, HasThirdPoint, IsBadRay, IsFirstPortal, IsLastPortal, IsLeastWall, IsPortalOpen, IsTipFault, IsTrace, IsTraceFault, IsTraceable, IsSolidPortal, IsWallFault, IsWayOut, opposite as opposite_of};
 
 use crate::check_ray;
 use geom_exact::side_of;
@@ -43,7 +43,7 @@ pub fn trace(
     requires good { IsGoodMesh (map_of plan.now) mesh.now.triangles labels.now }
     ensures answer { MatchResult result (λ v. IsTrace (map_of plan.now) mesh.now.triangles ray.now v.items) (λ f. IsTraceFault (map_of plan.now) mesh.now.triangles ray.now f) }
     ensures labelled { IfOk result (λ v. All (λ k. IsSome (label_of labels.now k)) v.items) }
-    ensures first { MatchResult result (λ _. IsClear (map_of plan.now) ray.now) (λ f. IsFirstFault (map_of plan.now) ray.now f) }
+    ensures first { MatchResult result (λ _. IsRayClear (map_of plan.now) ray.now) (λ f. IsFirstTraceFault (map_of plan.now) ray.now f) }
 {
     let first = crossed_edge_out(plan, ray.first);
     if let Err(fault) = unblocked(plan, ray) {
@@ -83,7 +83,7 @@ fn unblocked(plan: &Plan, ray: &Ray) -> Result<(), RayFault>
 
 /// The crossed edge that leads out of the side, across its line; None where there is no such line.
 fn crossed_edge_out(plan: &Plan, side: Side) -> Option<CrossedEdge>
-    ensures portal { root_portal (map_of plan.now) side ≡ option_map portal_of result }
+    ensures portal { root_portal (map_of plan.now) side ≡ option_map portal_crossed result }
     ensures plan { IsPlan plan.now }
 {
     let line = line_of(plan, side.line)?;
@@ -125,9 +125,9 @@ fn walk(
     requires good { IsGoodMesh (map_of plan.now) mesh.now.triangles labels.now }
     requires traceable { IsTraceable (map_of plan.now) ray.now }
     requires range { IsInRange ray.now }
-    requires first { IsFirstPortal (map_of plan.now) ray.now (portal_of first) }
-    requires crossed { Crosses (map_of plan.now) ray.now (portal_of first) }
-    requires last { IsLastPortal (map_of plan.now) ray.now (portal_of last) }
+    requires first { IsFirstPortal (map_of plan.now) ray.now (portal_crossed first) }
+    requires crossed { CrossesPortal (map_of plan.now) ray.now (portal_crossed first) }
+    requires last { IsLastPortal (map_of plan.now) ray.now (portal_crossed last) }
     ensures answer { MatchResult result (λ v. IsTrace (map_of plan.now) mesh.now.triangles ray.now v.items) (λ f. IsTraceFault (map_of plan.now) mesh.now.triangles ray.now f) }
     ensures labelled { IfOk result (λ v. All (λ k. IsSome (label_of labels.now k)) v.items) }
 {
@@ -148,7 +148,7 @@ fn walk(
 
 /// The crossed edge the other way.
 fn back(crossed_edge: CrossedEdge) -> CrossedEdge
-    ensures { entry_edge (portal_of result) ≡ reverse_of (entry_edge (portal_of crossed_edge)) }
+    ensures { entry_edge (portal_crossed result) ≡ reverse_of (entry_edge (portal_crossed crossed_edge)) }
 {
     CrossedEdge {
         left: crossed_edge.right,
@@ -163,9 +163,9 @@ fn enter(
     labels: &Labels,
     crossed_edge: CrossedEdge,
 ) -> Result<u16, TraceFault>
-    requires leads { IsOpen (map_of plan.now) (portal_of crossed_edge) → HasLabelledTriangle mesh.now.triangles labels.now (portal_of crossed_edge) }
-    ensures answer { MatchResult result (λ k. triangle_of mesh.now.triangles (entry_edge (portal_of crossed_edge)) ≡ Some k) (λ f. IsWallFault (map_of plan.now) (portal_of crossed_edge) f) }
-    ensures passable { IfOk result (λ k. IsOpen (map_of plan.now) (portal_of crossed_edge)) }
+    requires leads { IsPortalOpen (map_of plan.now) (portal_crossed crossed_edge) → HasLabelledTriangle mesh.now.triangles labels.now (portal_crossed crossed_edge) }
+    ensures answer { MatchResult result (λ k. triangle_of mesh.now.triangles (entry_edge (portal_crossed crossed_edge)) ≡ Some k) (λ f. IsWallFault (map_of plan.now) (portal_crossed crossed_edge) f) }
+    ensures passable { IfOk result (λ k. IsPortalOpen (map_of plan.now) (portal_crossed crossed_edge)) }
     ensures labelled { IfOk result (λ k. IsSome (label_of labels.now k)) }
 {
     if let Some(line) = wall_at(plan, crossed_edge) {
@@ -176,8 +176,8 @@ fn enter(
 
 /// The labelled triangle behind the crossed edge.
 fn behind(mesh: &Mesh, labels: &Labels, crossed_edge: CrossedEdge) -> u16
-    requires leads { HasLabelledTriangle mesh.now.triangles labels.now (portal_of crossed_edge) }
-    ensures triangle { triangle_of mesh.now.triangles (entry_edge (portal_of crossed_edge)) ≡ Some result }
+    requires leads { HasLabelledTriangle mesh.now.triangles labels.now (portal_crossed crossed_edge) }
+    ensures triangle { triangle_of mesh.now.triangles (entry_edge (portal_crossed crossed_edge)) ≡ Some result }
     ensures labelled { IsSome (label_of labels.now result) }
 {
     match mesh.triangle_at(crossed_edge.left, crossed_edge.right) {
@@ -198,7 +198,7 @@ fn is_labelled(labels: &Labels, triangle: u16) -> bool
 
 /// The least solid line that the crossed edge is.
 fn wall_at(plan: &Plan, crossed_edge: CrossedEdge) -> Option<u16>
-    ensures { MatchOption result (IsOpen (map_of plan.now) (portal_of crossed_edge)) (IsLeastWall (map_of plan.now) (portal_of crossed_edge)) }
+    ensures { MatchOption result (IsPortalOpen (map_of plan.now) (portal_crossed crossed_edge)) (IsLeastWall (map_of plan.now) (portal_crossed crossed_edge)) }
 {
     for i in 0..plan.lines().len() {
         if is_wall(plan, i as u16, crossed_edge) {
@@ -210,7 +210,7 @@ fn wall_at(plan: &Plan, crossed_edge: CrossedEdge) -> Option<u16>
 
 /// Whether the crossed edge is the line with this record number, and the line is solid.
 fn is_wall(plan: &Plan, number: u16, crossed_edge: CrossedEdge) -> bool
-    ensures { IsTrue result ↔ IsWall (map_of plan.now) (portal_of crossed_edge) number }
+    ensures { IsTrue result ↔ IsSolidPortal (map_of plan.now) (portal_crossed crossed_edge) number }
 {
     match line_of(plan, number) {
         Some(line) => line.solid && joins(line, crossed_edge),
@@ -235,9 +235,9 @@ fn leave(
 ) -> Result<CrossedEdge, TraceFault>
     requires plan { IsPlan plan.now }
     requires range { IsInRange ray.now }
-    requires crossed { Crosses (map_of plan.now) ray.now (portal_of crossed_edge) }
-    requires third { HasThirdPoint (map_of plan.now) mesh.now.triangles (portal_of crossed_edge) }
-    ensures { MatchResult result (λ g. IsWayOut (map_of plan.now) mesh.now.triangles ray.now (portal_of crossed_edge) (portal_of g)) (λ f. IsTipFault (map_of plan.now) mesh.now.triangles ray.now (portal_of crossed_edge) f) }
+    requires crossed { CrossesPortal (map_of plan.now) ray.now (portal_crossed crossed_edge) }
+    requires third { HasThirdPoint (map_of plan.now) mesh.now.triangles (portal_crossed crossed_edge) }
+    ensures { MatchResult result (λ g. IsWayOut (map_of plan.now) mesh.now.triangles ray.now (portal_crossed crossed_edge) (portal_crossed g)) (λ f. IsTipFault (map_of plan.now) mesh.now.triangles ray.now (portal_crossed crossed_edge) f) }
 {
     let Some(tip) = mesh.apex(crossed_edge.left, crossed_edge.right) else {
         unreachable!()

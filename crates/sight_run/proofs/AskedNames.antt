@@ -3,22 +3,22 @@ use Rattle.std.proofs.Common.{◌≡◌, ℕ, ◌+◌, ◌<◌, List, length, ge
 use Rattle.std.proofs.lemmas.List.{drop_more}
 use Rattle.sight_names.specs.declared.faults.MapFault.{MapFault}
 use Rattle.wad_dir.specs.Map.{has_name, same_name}
-use Rattle.wad_dir.specs.AllMaps.Asked.{fault_of, first_fault}
+use Rattle.wad_dir.specs.AllMaps.Asked.{fault_of_name, first_fault}
 
 -- ---- the first name that is none of a map's
 
 abbrev fault_then : Option MapFault → Option MapFault → Option MapFault
 fault_then o rest = elim o [ None ↦ rest | Some why ↦ Some why ]
 
-fault_from : (names only : List (List ℕ)) (k : ℕ) (x : List ℕ) → k < length only → x ≡ get_or only k x → first_fault names (drop k only) ≡ fault_then (fault_of names x) (first_fault names (drop (k + 1) only))
+fault_from : (names only : List (List ℕ)) (k : ℕ) (x : List ℕ) → k < length only → x ≡ get_or only k x → first_fault names (drop k only) ≡ fault_then (fault_of_name names x) (first_fault names (drop (k + 1) only))
 fault_from names only k x lt is =
-    ap (λ (xs : List (List ℕ)). first_fault names xs) (drop_more only k x lt) ∙ ap (λ (y : List ℕ). fault_then (fault_of names y) (first_fault names (drop (k + 1) only))) (sym is)
+    ap (λ (xs : List (List ℕ)). first_fault names xs) (drop_more only k x lt) ∙ ap (λ (y : List ℕ). fault_then (fault_of_name names y) (first_fault names (drop (k + 1) only))) (sym is)
 
-pub fault_here : (names only : List (List ℕ)) (k : ℕ) (x : List ℕ) (why : MapFault) → k < length only → x ≡ get_or only k x → Some why ≡ fault_of names x → first_fault names only ≡ first_fault names (drop k only) → Some why ≡ first_fault names only
+pub fault_here : (names only : List (List ℕ)) (k : ℕ) (x : List ℕ) (why : MapFault) → k < length only → x ≡ get_or only k x → Some why ≡ fault_of_name names x → first_fault names only ≡ first_fault names (drop k only) → Some why ≡ first_fault names only
 fault_here names only k x why lt is found before =
     sym (before ∙ fault_from names only k x lt is ∙ ap (λ (o : Option MapFault). fault_then o (first_fault names (drop (k + 1) only))) (sym found))
 
-pub fault_more : (names only : List (List ℕ)) (k : ℕ) (x : List ℕ) → k < length only → x ≡ get_or only k x → None ≡ fault_of names x → first_fault names only ≡ first_fault names (drop k only) → first_fault names only ≡ first_fault names (drop (k + 1) only)
+pub fault_more : (names only : List (List ℕ)) (k : ℕ) (x : List ℕ) → k < length only → x ≡ get_or only k x → None ≡ fault_of_name names x → first_fault names only ≡ first_fault names (drop k only) → first_fault names only ≡ first_fault names (drop (k + 1) only)
 fault_more names only k x lt is none before =
     before ∙ fault_from names only k x lt is ∙ ap (λ (o : Option MapFault). fault_then o (first_fault names (drop (k + 1) only))) (sym none)
 

@@ -16,7 +16,7 @@ use Rattle.map_answers.specs.declared.sight_status.status.Why.{Why}
 use Rattle.map_answers.specs.declared.sight_status.status.Why.TheVariants as why
 use Rattle.map_answers.specs.declared.sight_status.status.Status.{Status}
 use Rattle.map_answers.specs.declared.sight_status.status.Status.TheVariants as status
-use Rattle.map_answers.specs.SightStatus.Answer.{Answer, Gives, Written}
+use Rattle.map_answers.specs.SightStatus.Answer.{Answer, GivesCalled, Written}
 use Rattle.map_answers.specs.SightStatus.Status.{IsProper}
 use Rattle.sight_run.specs.declared.reply.Reply.{Reply}
 use Rattle.sight_run.specs.Check.{IsToldRight, told_as}
@@ -64,11 +64,11 @@ words_right n (Err refusal) = refl
 -- ---- the reply
 
 module _ (spelled : Spelling) (n : ℕ) (found : Result Totals Status) where
-  pub gives_reply : (Called : Result Answer Status → Type 0) (r : Result Reply Status) → RepliesAs (told_as spelled n found) r → Gives ⊤ Called (told_as spelled n found) → Gives ⊤ Called (reply_seen r)
-  gives_reply Called (Ok reply) e h = subst (λ (x : Result Answer Status). Gives ⊤ Called x) e h
+  pub gives_reply : (Called : Result Answer Status → Type 0) (r : Result Reply Status) → RepliesAs (told_as spelled n found) r → GivesCalled ⊤ Called (told_as spelled n found) → GivesCalled ⊤ Called (reply_seen r)
+  gives_reply Called (Ok reply) e h = subst (λ (x : Result Answer Status). GivesCalled ⊤ Called x) e h
   gives_reply Called (Err (status.Memory _)) e h = tt
   gives_reply Called (Err (status.ReadFault k)) e h = tt
-  gives_reply Called (Err s) e h = subst (λ (x : Result Answer Status). Gives ⊤ Called x) e h
+  gives_reply Called (Err s) e h = subst (λ (x : Result Answer Status). GivesCalled ⊤ Called x) e h
 
   pub reply_writes : (r : Result Reply Status) → RepliesAs (told_as spelled n found) r → IfOk r (λ (reply : Reply). writes reply ≡ [])
   reply_writes (Ok reply) e = sym (ap writes_in e) ∙ no_writes spelled n found

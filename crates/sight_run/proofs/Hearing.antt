@@ -9,13 +9,13 @@ use Rattle.map_answers.specs.declared.sight_status.status.Role.{Role}
 use Rattle.map_answers.specs.declared.sight_status.status.Role.TheVariants as role
 use Rattle.map_answers.specs.declared.sight_status.status.Status.{Status}
 use Rattle.map_answers.specs.declared.sight_status.status.Status.TheVariants as status
-use Rattle.map_answers.specs.SightStatus.Say.{Refused, Said, SaidIfMade}
+use Rattle.map_answers.specs.SightStatus.Say.{Refused, IsSaidLine, SaidIfMade}
 use Rattle.map_answers.specs.SightStatus.Status.{IsOfMaking, done_as}
 use Rattle.map_answers.specs.SightStatus.Texts.{text_of}
 use Rattle.whole_wad.specs.Built.{IsOfBuilding}
-use Rattle.sight_run.specs.Heard.{AllHeard, AreFindingsIn, BuildHears, Heard, Hears, IsUnheard, OrderHears}
-use Rattle.sight_run.specs.Reply.{IsFaultOf}
-use Rattle.sight_run.specs.Run.{HasLine, IsUnstored, RefusalCause}
+use Rattle.sight_run.specs.Heard.{AllHeard, AreFindingsIn, BuildHears, ListenersHeard, Hears, IsUnheard, OrderHears}
+use Rattle.sight_run.specs.Reply.{IsWriteFaultOf}
+use Rattle.sight_run.specs.Run.{HasStatusLine, IsUnstored, RefusalCause}
 
 -- ---- nothing was told
 
@@ -30,7 +30,7 @@ making_unstored status.NotRight h = absurd h
 making_unstored (status.WriteFault k) h = absurd h
 making_unstored s h = tt
 
-pub build_unheard : (Are : List Finding → Type 0) (heard : Heard) (s : Status) → IsUnheard heard → IsUnstored s → BuildHears Are heard s
+pub build_unheard : (Are : List Finding → Type 0) (heard : ListenersHeard) (s : Status) → IsUnheard heard → IsUnstored s → BuildHears Are heard s
 build_unheard Are heard status.Done h early = absurd early
 build_unheard Are heard status.NotRight h early = absurd early
 build_unheard Are heard (status.WriteFault k) h early = absurd early
@@ -39,22 +39,22 @@ build_unheard Are heard s h early = h
 
 -- ---- an output couldn't be stored
 
-build_faulted : (Are : List Finding → Type 0) (heard : Heard) (k : Role) → AllHeard Are heard → BuildHears Are heard (status.WriteFault k)
+build_faulted : (Are : List Finding → Type 0) (heard : ListenersHeard) (k : Role) → AllHeard Are heard → BuildHears Are heard (status.WriteFault k)
 build_faulted Are heard role.Text h = inr h
 build_faulted Are heard k h = h
 
-fault_hears : (asked : Order) (files : Option Files) (heard : Heard) (right : Bool) (k : Role) → OrderHears asked files heard (done_as right) → OrderHears asked files heard (status.WriteFault k)
+fault_hears : (asked : Order) (files : Option Files) (heard : ListenersHeard) (right : Bool) (k : Role) → OrderHears asked files heard (done_as right) → OrderHears asked files heard (status.WriteFault k)
 fault_hears (order.Build wad name out cert report workers method) files heard true k h = build_faulted (AreFindingsIn files wad name method) heard k h
 fault_hears (order.Build wad name out cert report workers method) files heard false k h = build_faulted (AreFindingsIn files wad name method) heard k h
 fault_hears asked files heard right k h = h
 
-pub broken_hears : (asked : Order) (files : Option Files) (heard : Heard) (right : Bool) (roles : List Role) (s : Status) → IsFaultOf roles s → OrderHears asked files heard (done_as right) → OrderHears asked files heard s
+pub broken_hears : (asked : Order) (files : Option Files) (heard : ListenersHeard) (right : Bool) (roles : List Role) (s : Status) → IsWriteFaultOf roles s → OrderHears asked files heard (done_as right) → OrderHears asked files heard s
 broken_hears asked files heard right roles (status.WriteFault k) fault h = fault_hears asked files heard right k h
 broken_hears asked files heard right roles s fault h = absurd fault
 
 -- ---- the line couldn't be put
 
-build_cut : (Are : List Finding → Type 0) (heard : Heard) (s : Status) → HasLine s → BuildHears Are heard s → BuildHears Are heard (status.WriteFault role.Text)
+build_cut : (Are : List Finding → Type 0) (heard : ListenersHeard) (s : Status) → HasStatusLine s → BuildHears Are heard s → BuildHears Are heard (status.WriteFault role.Text)
 build_cut Are heard status.Done has h = inr h
 build_cut Are heard status.NotRight has h = inr h
 build_cut Are heard (status.WriteFault role.Text) has h = h
@@ -62,43 +62,43 @@ build_cut Are heard (status.WriteFault k) has h = inr h
 build_cut Are heard (status.Memory _) has h = absurd has
 build_cut Are heard s has h = inl h
 
-order_cut : (asked : Order) (files : Option Files) (heard : Heard) (s : Status) → HasLine s → OrderHears asked files heard s → OrderHears asked files heard (status.WriteFault role.Text)
+order_cut : (asked : Order) (files : Option Files) (heard : ListenersHeard) (s : Status) → HasStatusLine s → OrderHears asked files heard s → OrderHears asked files heard (status.WriteFault role.Text)
 order_cut (order.Build wad name out cert report workers method) files heard s has h = build_cut (AreFindingsIn files wad name method) heard s has h
 order_cut asked files heard s has h = h
 
-line_cut : (asked : Result Order Status) (files : Option Files) (heard : Heard) (s : Status) → HasLine s → Hears asked files heard s → Hears asked files heard (status.WriteFault role.Text)
+line_cut : (asked : Result Order Status) (files : Option Files) (heard : ListenersHeard) (s : Status) → HasStatusLine s → Hears asked files heard s → Hears asked files heard (status.WriteFault role.Text)
 line_cut (Ok asked) files heard s has h = order_cut asked files heard s has h
 line_cut (Err refusal) files heard s has h = h
 
 -- ---- there was no memory for the line
 
-build_starved : (Are : List Finding → Type 0) (heard : Heard) (s : Status) → IsUnstored s → BuildHears Are heard s → BuildHears Are heard (status.Memory tt)
+build_starved : (Are : List Finding → Type 0) (heard : ListenersHeard) (s : Status) → IsUnstored s → BuildHears Are heard s → BuildHears Are heard (status.Memory tt)
 build_starved Are heard status.Done early h = absurd early
 build_starved Are heard status.NotRight early h = absurd early
 build_starved Are heard (status.WriteFault k) early h = absurd early
 build_starved Are heard (status.Memory _) early h = h
 build_starved Are heard s early h = inl h
 
-order_starved : (asked : Order) (files : Option Files) (heard : Heard) (s : Status) → IsUnstored s → OrderHears asked files heard s → OrderHears asked files heard (status.Memory tt)
+order_starved : (asked : Order) (files : Option Files) (heard : ListenersHeard) (s : Status) → IsUnstored s → OrderHears asked files heard s → OrderHears asked files heard (status.Memory tt)
 order_starved (order.Build wad name out cert report workers method) files heard s early h = build_starved (AreFindingsIn files wad name method) heard s early h
 order_starved asked files heard s early h = h
 
-line_starved : (asked : Result Order Status) (files : Option Files) (heard : Heard) (s : Status) → IsUnstored s → Hears asked files heard s → Hears asked files heard (status.Memory tt)
+line_starved : (asked : Result Order Status) (files : Option Files) (heard : ListenersHeard) (s : Status) → IsUnstored s → Hears asked files heard s → Hears asked files heard (status.Memory tt)
 line_starved (Ok asked) files heard s early h = order_starved asked files heard s early h
 line_starved (Err refusal) files heard s early h = h
 
 -- ---- at the end of a run
 
-module _ (asked : Result Order Status) (files : Option Files) (heard : Heard) (o n : SinkState) where
-  hears_said : (s r : Status) (line : List ℕ) → HasLine s → Hears asked files heard s → Said s r o n line → Hears asked files heard r
+module _ (asked : Result Order Status) (files : Option Files) (heard : ListenersHeard) (o n : SinkState) where
+  hears_said : (s r : Status) (line : List ℕ) → HasStatusLine s → Hears asked files heard s → IsSaidLine s r o n line → Hears asked files heard r
   hears_said s r line has h (inl put) = subst (λ (t : Status). Hears asked files heard t) (sym put.status) h
   hears_said s r line has h (inr cut) = subst (λ (t : Status). Hears asked files heard t) (sym cut.status) (line_cut asked files heard s has h)
 
-  pub hears_done : (right : Bool) (r : Status) (line : List ℕ) → Hears asked files heard (done_as right) → Said (done_as right) r o n line → Hears asked files heard r
+  pub hears_done : (right : Bool) (r : Status) (line : List ℕ) → Hears asked files heard (done_as right) → IsSaidLine (done_as right) r o n line → Hears asked files heard r
   hears_done true r line h said = hears_said status.Done r line tt h said
   hears_done false r line h said = hears_said status.NotRight r line tt h said
 
-  hears_made : (s r : Status) → HasLine s → IsUnstored s → Hears asked files heard s → SaidIfMade s r o n → Hears asked files heard r
+  hears_made : (s r : Status) → HasStatusLine s → IsUnstored s → Hears asked files heard s → SaidIfMade s r o n → Hears asked files heard r
   hears_made s r has early h (inl said) = hears_said s r (text_of s) has h said
   hears_made s r has early h (inr none) = subst (λ (t : Status). Hears asked files heard t) (sym none.status) (line_starved asked files heard s early h)
 
@@ -124,5 +124,5 @@ module _ (asked : Result Order Status) (files : Option Files) (heard : Heard) (o
   hears_refused before after status.SameName r cause h said = hears_made status.SameName r tt tt h said
 
 -- .. where the files are told
-pub hears_in : (asked : Result Order Status) (told : Option Files) (files : Files) (heard : Heard) (s : Status) → told ≡ Some files → Hears asked told heard s → Hears asked (Some files) heard s
+pub hears_in : (asked : Result Order Status) (told : Option Files) (files : Files) (heard : ListenersHeard) (s : Status) → told ≡ Some files → Hears asked told heard s → Hears asked (Some files) heard s
 hears_in asked told files heard s e h = subst (λ (o : Option Files). Hears asked o heard s) e h

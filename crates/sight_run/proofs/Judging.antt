@@ -6,7 +6,7 @@ use Rattle.sight_names.specs.Plan.{IsPlan, PlanParts}
 use Rattle.reject_bits.specs.Parts.{TableParts}
 use Rattle.cert_format.specs.declared.cert.Sizes.{Sizes}
 use Rattle.cert_format.specs.Accepted.{labels_of, triangles_of}
-use Rattle.cert_format.specs.Sizes.{sizes_of}
+use Rattle.cert_format.specs.Sizes.{sizes_of_plan}
 use Rattle.cert_format.specs.declared.cert_groups.cert.CertTwo.{CertTwo}
 use Rattle.cert_format.specs.declared.cert_groups.cert.AnyCert.{AnyCert}
 use Rattle.cert_format.specs.declared.cert_groups.cert.AnyCert.TheVariants.{One, Two}
@@ -25,7 +25,7 @@ use Rattle.cert_judge.specs.declared.judged.Judged.{Judged}
 use Rattle.cert_judge.specs.declared.judged.Judged.TheVariants as judged
 use Rattle.cert_judge.specs.Judged.{JudgedBy}
 use Rattle.any_judge.specs.CertFile.Judgement.{IsJudged as IsJudgedOver, IsJudgement as IsJudgementOver}
-use Rattle.sight_run.specs.Judged.{IsJudged, IsJudgement, JudgesListingOf, JudgesOf, JudgesThreeOf, JudgesTwoOf}
+use Rattle.sight_run.specs.Judged.{IsJudgedOnMap, IsJudgementOnMap, JudgesListingOf, JudgesOf, JudgesThreeOf, JudgesTwoOf}
 use Rattle.whole_wad.specs.Sizes.{sizes_of_map}
 
 two_by_map : (p : PlanParts) (t : TableParts) (c : CertTwo) (v : AnyVerdict) → IsPlan p → JudgesTwo p t c v → JudgesTwoOf (map_of p) t c v
@@ -58,12 +58,12 @@ pub by_map : (p : PlanParts) (t : TableParts) (c : Certificate) (v : AnyVerdict)
 by_map p t (Listing c) v plan h = listing_by_map p t c v plan h
 by_map p t (Exact c) v plan h = three_by_map p t c v plan h
 
-judged_by_map : (p : PlanParts) (t : TableParts) (r : Result Certificate CertFault) (given : Judged) → IsPlan p → JudgedBy r (IsJudgedOver p t) given → JudgedBy r (IsJudged (map_of p) t) given
+judged_by_map : (p : PlanParts) (t : TableParts) (r : Result Certificate CertFault) (given : Judged) → IsPlan p → JudgedBy r (IsJudgedOver p t) given → JudgedBy r (IsJudgedOnMap (map_of p) t) given
 judged_by_map p t (Ok c) (judged.Verdict v) plan h = record { exact = by_map p t c v plan h.exact; accepted = h.accepted; sight = h.sight }
 judged_by_map p t (Ok c) (judged.Unread g) plan h = absurd h
 judged_by_map p t (Err f) (judged.Verdict v) plan h = absurd h
 judged_by_map p t (Err f) (judged.Unread g) plan h = h
 
 -- what was judged while it was read
-pub judgement_by_map : (p : PlanParts) (t : TableParts) (bytes : List ℕ) (given : Judged) → IsPlan p → sizes_of p ≡ sizes_of_map (map_of p) → IsJudgementOver p t bytes given → IsJudgement (map_of p) t bytes given
-judgement_by_map p t bytes given plan sized h = subst (λ (s : Sizes). JudgedBy (certificate_at s bytes) (IsJudged (map_of p) t) given) sized (judged_by_map p t (certificate_at (sizes_of p) bytes) given plan h)
+pub judgement_by_map : (p : PlanParts) (t : TableParts) (bytes : List ℕ) (given : Judged) → IsPlan p → sizes_of_plan p ≡ sizes_of_map (map_of p) → IsJudgementOver p t bytes given → IsJudgementOnMap (map_of p) t bytes given
+judgement_by_map p t bytes given plan sized h = subst (λ (s : Sizes). JudgedBy (certificate_at s bytes) (IsJudgedOnMap (map_of p) t) given) sized (judged_by_map p t (certificate_at (sizes_of_plan p) bytes) given plan h)

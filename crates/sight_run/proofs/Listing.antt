@@ -8,7 +8,7 @@ use Rattle.map_answers.specs.declared.sight_status.status.Bound.TheVariants as b
 use Rattle.map_answers.specs.declared.sight_status.status.Role.TheVariants as role
 use Rattle.map_answers.specs.declared.sight_status.status.Status.{Status}
 use Rattle.map_answers.specs.declared.sight_status.status.Status.TheVariants as status
-use Rattle.map_answers.specs.SightStatus.Answer.{Answer, Gives, IsTheAnswer}
+use Rattle.map_answers.specs.SightStatus.Answer.{Answer, GivesCalled, IsTheAnswer}
 use Rattle.table_verdicts.specs.declared.map_list.listing.MapList.{MapList}
 use Rattle.table_verdicts.specs.MapList.Listing.{ShowsList}
 use Rattle.table_verdicts.specs.MapList.Totals.{list_line}
@@ -36,7 +36,7 @@ list_answers : (reported : Option ReportFile) (large : Bool) (asked : AskedMaps)
 list_answers reported large asked answer is = record { called = ap (λ (a : Answer). Ok a) is; only = λ sole other called. called ∙ sym (ap (λ (a : Answer). Ok a) is) }
 
 -- .. of a file that was read
-pub list_read : (said : Result AskedMaps Status) (asked : AskedMaps) (reported : Option ReportFile) (large : Bool) (answer : Answer) → said ≡ Ok asked → answer ≡ asked_answer reported large asked → Gives ⊤ (OnRead said (MapsListed reported large)) (Ok answer)
+pub list_read : (said : Result AskedMaps Status) (asked : AskedMaps) (reported : Option ReportFile) (large : Bool) (answer : Answer) → said ≡ Ok asked → answer ≡ asked_answer reported large asked → GivesCalled ⊤ (OnRead said (MapsListed reported large)) (Ok answer)
 list_read said asked reported large answer e is = gives_read {D = AskedMaps} said asked (MapsListed reported large) (Ok answer) e (list_answers reported large asked answer is)
 
 -- ---- by the order

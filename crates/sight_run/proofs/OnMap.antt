@@ -10,10 +10,10 @@ use Rattle.sight_names.specs.declared.names.Method.{Method}
 use Rattle.map_answers.specs.declared.sight_status.status.Status.{Status}
 use Rattle.map_answers.specs.declared.sight_status.status.Status.TheVariants as status
 use Rattle.map_answers.specs.Input.{LocatedMap, OnFound}
-use Rattle.map_answers.specs.SightStatus.Answer.{Answer, Gives}
+use Rattle.map_answers.specs.SightStatus.Answer.{Answer, GivesCalled}
 use Rattle.sight_run.specs.Build.{with_report}
-use Rattle.sight_run.specs.Heard.{Heard, HearsOn, IsUnheard}
-use Rattle.sight_run.specs.Obeys.{CallsOn, HasOneOn, IsDetermined, IsDeterminedOn, IsOfMapAlone, MapAsked, Obeys, ObeysOn, map_asked, report_of}
+use Rattle.sight_run.specs.Heard.{ListenersHeard, HearsOn, IsUnheard}
+use Rattle.sight_run.specs.Obeys.{CallsOn, HasOneOn, IsDetermined, IsDeterminedOn, IsOfMapAlone, MapAsked, Obeys, ObeysOn, map_asked, report_asked}
 use Rattle.sight_run.specs.Reading.{found_of}
 use Rattle.sight_run.specs.Run.{Cause, IsPastReading, IsUnstored}
 use Rattle.sight_run.proofs.Building.{gives_plain}
@@ -21,11 +21,11 @@ use Rattle.sight_run.proofs.Building.{gives_plain}
 -- ---- by the order
 
 -- an answer that the map calls for is one that its order calls for
-pub gives_obeyed : (asked : Order) (at : MapAsked) (files : Files) (heard : Heard) (found : LocatedMap) (r : Result Answer Status) → map_asked asked ≡ Some at → found_of at.wad at.name files ≡ Ok found
-    → Gives (HasOneOn asked (Ok found)) (CallsOn asked files heard found) r → Gives (IsDetermined asked files) (Obeys asked files heard) r
+pub gives_obeyed : (asked : Order) (at : MapAsked) (files : Files) (heard : ListenersHeard) (found : LocatedMap) (r : Result Answer Status) → map_asked asked ≡ Some at → found_of at.wad at.name files ≡ Ok found
+    → GivesCalled (HasOneOn asked (Ok found)) (CallsOn asked files heard found) r → GivesCalled (IsDetermined asked files) (Obeys asked files heard) r
 gives_obeyed asked at files heard found r is e h =
-    let told : Gives (HasOneOn asked (found_of at.wad at.name files)) (OnFound (found_of at.wad at.name files) (CallsOn asked files heard)) r = rw e h in
-    subst (λ (o : Option MapAsked). Gives (IsDeterminedOn o asked files) (ObeysOn o asked files heard) r) (sym is) told
+    let told : GivesCalled (HasOneOn asked (found_of at.wad at.name files)) (OnFound (found_of at.wad at.name files) (CallsOn asked files heard)) r = rw e h in
+    subst (λ (o : Option MapAsked). GivesCalled (IsDeterminedOn o asked files) (ObeysOn o asked files heard) r) (sym is) told
 
 -- ---- by the map alone
 
@@ -39,16 +39,16 @@ alone_of (order.All wad out only report workers method choice) some no_check no_
 alone_of (order.Maps wad only report) some no_check no_build = absurd cc
 alone_of asked some no_check no_build = tt
 
-unreported : (asked : Order) → IsOfMapAlone asked → report_of asked ≡ None
+unreported : (asked : Order) → IsOfMapAlone asked → report_asked asked ≡ None
 unreported (order.Build wad name out cert report workers method) alone = absurd alone
 unreported asked alone = refl
 
 -- such an order asks for no report
-pub gives_alone : (asked : Order) (Sole : Type 0) (Called : Result Answer Status → Type 0) (report : List ℕ) (r : Result Answer Status) → IsOfMapAlone asked → Gives Sole Called r → Gives Sole Called (with_report (report_of asked) report r)
-gives_alone asked Sole Called report r alone h = subst (λ (o : Option (List ℕ)). Gives Sole Called (with_report o report r)) (sym (unreported asked alone)) (gives_plain Sole Called report r h)
+pub gives_alone : (asked : Order) (Sole : Type 0) (Called : Result Answer Status → Type 0) (report : List ℕ) (r : Result Answer Status) → IsOfMapAlone asked → GivesCalled Sole Called r → GivesCalled Sole Called (with_report (report_asked asked) report r)
+gives_alone asked Sole Called report r alone h = subst (λ (o : Option (List ℕ)). GivesCalled Sole Called (with_report o report r)) (sym (unreported asked alone)) (gives_plain Sole Called report r h)
 
 -- and tells no listener
-pub unheard_alone : (asked : Order) (found : LocatedMap) (heard : Heard) (s : Status) → IsOfMapAlone asked → IsUnheard heard → HearsOn asked found heard s
+pub unheard_alone : (asked : Order) (found : LocatedMap) (heard : ListenersHeard) (s : Status) → IsOfMapAlone asked → IsUnheard heard → HearsOn asked found heard s
 unheard_alone (order.Build wad name out cert report workers method) found heard s alone h = absurd alone
 unheard_alone asked found heard s alone h = h
 

@@ -4,26 +4,26 @@ use Rattle.std.specs.Prelude.{string_bytes, ⊤}
 use Rattle.sight_names.specs.declared.faults.RewriteFault.{RewriteFault}
 use Rattle.sight_names.specs.declared.faults.RewriteFault.TheVariants as rewrite
 use Rattle.sight_names.specs.declared.names.Method.{Method}
-use Rattle.wad_dir.specs.Wad.{WadFile, names_of}
+use Rattle.wad_dir.specs.Wad.{WadFile, names_of_lumps}
 use Rattle.wad_dir.specs.AllMaps.All.{HasInOrder}
-use Rattle.wad_dir.specs.AllMaps.Maps.{maps_of}
+use Rattle.wad_dir.specs.AllMaps.Maps.{maps_in_names}
 use Rattle.order_words.specs.declared.order.ReportFile.{ReportFile}
 use Rattle.refused_maps.specs.declared.Refused.{Refused}
 use Rattle.refused_maps.specs.Stops.{Stops}
 use Rattle.map_answers.specs.declared.sight_status.status.Bound.TheVariants as bound
 use Rattle.map_answers.specs.declared.sight_status.status.Status.{Status}
 use Rattle.map_answers.specs.declared.sight_status.status.Status.TheVariants as status
-use Rattle.map_answers.specs.SightStatus.Answer.{Answer, Gives, IsTheAnswer}
+use Rattle.map_answers.specs.SightStatus.Answer.{Answer, GivesCalled, IsTheAnswer}
 use Rattle.whole_wad.specs.declared.outcomes.MapOutcome.{MapOutcome}
 use Rattle.whole_wad.specs.Outcomes.{AreOutcomes}
-use Rattle.whole_wad.specs.Report.{report_of}
+use Rattle.whole_wad.specs.Report.{outcomes_report}
 use Rattle.whole_wad.specs.declared.whole.Unmade.{Unmade}
 use Rattle.whole_wad.specs.declared.whole.Unmade.TheVariants as unmade
 use Rattle.whole_wad.specs.declared.whole.WholeWad.{WholeWad}
 use Rattle.whole_wad.specs.Stop.{StopsAt}
 use Rattle.whole_wad.specs.Whole.{IsAboveLimit, MakesWhole, ShowsWhole, written_of}
 use Rattle.whole_wad.proofs.OneOutcome.{none_stops, one_stop, outcomes_are_one}
-use Rattle.sight_run.specs.All.{IsTooMuch, IsUnmade, MapsCall, ShowsAll, all_writes, of_unmade, tally_line, tally_of}
+use Rattle.sight_run.specs.All.{IsTooMuch, IsUnmade, MapsCall, ShowsAll, all_writes, of_unmade, build_tally_line, tally_of_outcomes}
 use Rattle.sight_run.specs.Run.{IsOfStop}
 use Rattle.sight_run.specs.Words.{file_in, spelling_in}
 use Rattle.sight_run.proofs.Round.{same_ok}
@@ -31,7 +31,7 @@ use Rattle.whole_wad.proofs.Stopping.{IsOfMap, stop_of_map}
 
 -- what is written of the maps of a WAD, and why it isn't
 answered : List ℕ → Option ReportFile → Refused → List ℕ → List MapOutcome → Answer
-answered out reported choice bytes os = record { writes = all_writes out bytes (file_in reported) (report_of (spelling_in reported) os); line = tally_of choice os; right = true }
+answered out reported choice bytes os = record { writes = all_writes out bytes (file_in reported) (outcomes_report (spelling_in reported) os); line = tally_of_outcomes choice os; right = true }
 
 module _ (out : List ℕ) (reported : Option ReportFile) (large : Bool) (maps : List (List ℕ)) (method : Method) (choice : Refused) (w : WadFile) where
   -- two lists of what comes of the maps are written alike
@@ -95,23 +95,23 @@ module _ (out : List ℕ) (reported : Option ReportFile) (large : Bool) (maps : 
 
   -- what was made of the WAD is what is answered
   pub the_whole : (whole : WholeWad) (answer : Answer) → ShowsWhole w large maps method choice (spelling_in reported) whole
-      → answer ≡ record { writes = all_writes out whole.bytes.items (file_in reported) (string_bytes whole.report); line = tally_line choice whole.maps whole.built whole.refused whole.cleared; right = true } → IsTheAnswer ⊤ (MapsCall out reported large maps method choice w) (Ok answer)
+      → answer ≡ record { writes = all_writes out whole.bytes.items (file_in reported) (string_bytes whole.report); line = build_tally_line choice whole.maps whole.built whole.refused whole.cleared; right = true } → IsTheAnswer ⊤ (MapsCall out reported large maps method choice w) (Ok answer)
   the_whole whole answer h is = the_answer (Ok answer) (record {
     outcomes = h.outcomes;
     are = h.are;
     bytes = whole.bytes.items;
     made = h.shows.bytes;
-    is = is ∙ (λ i. record { writes = all_writes out whole.bytes.items (file_in reported) (h.shows.report_is i); line = tally_line choice (h.shows.maps i) (h.shows.built i) (h.shows.refused i) (h.shows.cleared i); right = true });
+    is = is ∙ (λ i. record { writes = all_writes out whole.bytes.items (file_in reported) (h.shows.report_is i); line = build_tally_line choice (h.shows.maps i) (h.shows.built i) (h.shows.refused i) (h.shows.cleared i); right = true });
   })
 
   -- ---- the status where nothing is made
 
-  of_call : (s : Status) → IsUnmade w large maps method choice s → Gives ⊤ (MapsCall out reported large maps method choice w) (Err s)
+  of_call : (s : Status) → IsUnmade w large maps method choice s → GivesCalled ⊤ (MapsCall out reported large maps method choice w) (Err s)
   of_call (status.Memory _) h = tt
   of_call (status.ReadFault k) h = tt
   of_call s h = the_answer (Err s) h
 
-  pub the_unmade : (u : Unmade) → MakesWhole w large maps method choice (spelling_in reported) (Err u) → Gives ⊤ (MapsCall out reported large maps method choice w) (Err (of_unmade u))
+  pub the_unmade : (u : Unmade) → MakesWhole w large maps method choice (spelling_in reported) (Err u) → GivesCalled ⊤ (MapsCall out reported large maps method choice w) (Err (of_unmade u))
   the_unmade (unmade.Stopped refusal) h = of_call refusal (inl h)
   the_unmade (unmade.Unwritten (rewrite.Memory _)) h = tt
   the_unmade (unmade.Unwritten rewrite.TooManyLumps) h = of_call (status.Limit bound.Lumps) (inr h)
@@ -129,7 +129,7 @@ module _ (out : List ℕ) (reported : Option ReportFile) (large : Bool) (maps : 
   stopped_so (status.Memory _) h stops = tt
   stopped_so s h stops = absurd h
 
-  pub unmade_so : (u : Unmade) → HasInOrder (maps_of (names_of w)) maps → MakesWhole w large maps method choice (spelling_in reported) (Err u) → IsOfStop choice (of_unmade u)
+  pub unmade_so : (u : Unmade) → HasInOrder (maps_in_names (names_of_lumps w)) maps → MakesWhole w large maps method choice (spelling_in reported) (Err u) → IsOfStop choice (of_unmade u)
   unmade_so (unmade.Stopped refusal) among h = let k = stop_of_map w large method choice refusal maps among h in stopped_so refusal k.1 k.0
   unmade_so (unmade.Unwritten (rewrite.Memory _)) among h = tt
   unmade_so (unmade.Unwritten rewrite.TooManyLumps) among h = tt

@@ -13,17 +13,17 @@ use Rattle.map_answers.specs.declared.sight_status.status.Bound.{Bound}
 use Rattle.map_answers.specs.declared.sight_status.status.Flaw.TheVariants as flaw
 use Rattle.map_answers.specs.declared.sight_status.status.Status.{Status}
 use Rattle.map_answers.specs.declared.sight_status.status.Status.TheVariants as status
-use Rattle.map_answers.specs.SightStatus.Answer.{Answer, Gives}
+use Rattle.map_answers.specs.SightStatus.Answer.{Answer, GivesCalled}
 use Rattle.map_answers.specs.Input.{LocatedMap}
 use Rattle.map_answers.proofs.Flaws.{one_side}
 use Rattle.whole_wad.proofs.OneTable.{one_table}
 use Rattle.sight_run.specs.Build.{BuildCalls, IsUnbuildable, ShowsBuild, ShowsLimit, build_line, build_writes}
-use Rattle.sight_run.specs.Heard.{Heard}
+use Rattle.sight_run.specs.Heard.{ListenersHeard}
 use Rattle.sight_run.specs.Obeys.{CallsOn, HasOneOn}
 use Rattle.sight_run.specs.Zero.{with_table}
 use Rattle.sight_run.proofs.OneLine.{one_count, one_wad}
 
-module _ (name out : List ℕ) (method : Method) (heard : Heard) (found : LocatedMap) where
+module _ (name out : List ℕ) (method : Method) (heard : ListenersHeard) (found : LocatedMap) where
   one_shown : (one other : Answer) → ShowsBuild name out None None method found heard one → ShowsBuild name out None None method found heard other → other ≡ one
   one_shown one other p q =
       let bytes = one_wad name out None None None None method found heard heard one other p q in
@@ -63,16 +63,16 @@ module _ (name out : List ℕ) (method : Method) (heard : Heard) (found : Locate
   one_answer (Err (status.Limit bound)) (Err s) p q = absurd q
   one_answer (Err s) other p q = absurd p
 
-module _ (name out : List ℕ) (method : Method) (heard : Heard) (found : LocatedMap) where
-  plain_gives : (r : Result Answer Status) → Gives (IsUnbuildable (Ok found)) (BuildCalls name out None None method heard found) r → Gives ⊤ (BuildCalls name out None None method heard found) r
+module _ (name out : List ℕ) (method : Method) (heard : ListenersHeard) (found : LocatedMap) where
+  plain_gives : (r : Result Answer Status) → GivesCalled (IsUnbuildable (Ok found)) (BuildCalls name out None None method heard found) r → GivesCalled ⊤ (BuildCalls name out None None method heard found) r
   plain_gives (Err (status.Memory _)) h = tt
   plain_gives (Err (status.ReadFault k)) h = tt
   plain_gives r h = record { called = h.called; only = λ sole other q. one_answer name out method heard found r other h.called q }
 
 -- what is given for a build of a map is given for its order
-pub gives_build : (wad : Source) (name out : List ℕ) (cert report : Option (List ℕ)) (workers : ℕ) (method : Method) (files : Files) (heard : Heard) (found : LocatedMap) (r : Result Answer Status)
-    → Gives (IsUnbuildable (Ok found)) (BuildCalls name out cert report method heard found) r
-    → Gives (HasOneOn (order.Build wad name out cert report workers method) (Ok found)) (CallsOn (order.Build wad name out cert report workers method) files heard found) r
+pub gives_build : (wad : Source) (name out : List ℕ) (cert report : Option (List ℕ)) (workers : ℕ) (method : Method) (files : Files) (heard : ListenersHeard) (found : LocatedMap) (r : Result Answer Status)
+    → GivesCalled (IsUnbuildable (Ok found)) (BuildCalls name out cert report method heard found) r
+    → GivesCalled (HasOneOn (order.Build wad name out cert report workers method) (Ok found)) (CallsOn (order.Build wad name out cert report workers method) files heard found) r
 gives_build wad name out None None workers method files heard found r h = plain_gives name out method heard found r h
 gives_build wad name out None (Some report) workers method files heard found r h = h
 gives_build wad name out (Some cert) report workers method files heard found r h = h

@@ -12,7 +12,7 @@ use Rattle.whole_wad.proofs.OneTable.{one_table}
 use Rattle.map_answers.specs.Input.{LocatedMap}
 use Rattle.sight_run.specs.Build.{BuildsSayOneThing, ShowsBuild, build_line, build_writes, report_behind, wad_output}
 use Rattle.sight_run.specs.Grid.{ShowsGrid, grid_line}
-use Rattle.sight_run.specs.Heard.{Heard}
+use Rattle.sight_run.specs.Heard.{ListenersHeard}
 use Rattle.sight_run.specs.Zero.{with_table}
 use Rattle.sight_run.proofs.Round.{same_ok}
 
@@ -24,7 +24,7 @@ module _ (m : Map) (method : Method) (one other : Built) (is_one : IsBuiltOf m m
   one_count = same_counts one other (one_table m method one other is_one is_other)
 
 -- what two builds of a map show is one WAD, and one line
-module _ (name out : List ℕ) (cert report other_cert other_report : Option (List ℕ)) (method : Method) (found : LocatedMap) (heard others : Heard) (one other : Answer) (p : ShowsBuild name out cert report method found heard one) (q : ShowsBuild name out other_cert other_report method found others other) where
+module _ (name out : List ℕ) (cert report other_cert other_report : Option (List ℕ)) (method : Method) (found : LocatedMap) (heard others : ListenersHeard) (one other : Answer) (p : ShowsBuild name out cert report method found heard one) (q : ShowsBuild name out other_cert other_report method found others other) where
   pub one_wad : p.bytes ≡ q.bytes
   one_wad =
       let same = one_table found.map method p.built q.built p.is_built q.is_built in

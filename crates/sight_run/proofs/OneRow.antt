@@ -21,10 +21,10 @@ use Rattle.draw_answers.specs.Drawn.{Drawing, one_picture}
 use Rattle.draw_answers.specs.Heat.{DrawHeatCalls, HeatCall, clear_in_row, heat_drawing, heat_line_of}
 use Rattle.draw_answers.specs.Lines.{row_line_of, set_in_row}
 use Rattle.draw_answers.specs.Row.{DrawRowCalls, RowCall, row_drawing}
-use Rattle.sight_run.specs.Check.{IsTableOf}
+use Rattle.sight_run.specs.Check.{IsTableOfBytes}
 use Rattle.whole_wad.proofs.OneTable.{spare_clear}
 
-module _ (n : ℕ) (bytes : List ℕ) (t u : TableParts) (is : IsTableOf n bytes t) (other : IsTableOf n bytes u) where
+module _ (n : ℕ) (bytes : List ℕ) (t u : TableParts) (is : IsTableOfBytes n bytes t) (other : IsTableOfBytes n bytes u) where
   sectors : t.n ≡ u.n
   sectors = is.sectors ∙ sym other.sectors
 
@@ -73,7 +73,7 @@ module _ (m : Map) (One Other : MapGroups → Result Answer Status → Type 0) (
 
 -- what one of two tables of the same bytes calls for, the other calls for
 abbrev pub IsFixed : Map → (TableParts → Result Answer Status → Type 0) → Type 0
-IsFixed m Called = (bytes : List ℕ) (t u : TableParts) (r : Result Answer Status) → IsTableOf m.sectors bytes t → IsTableOf m.sectors bytes u → Called u r → Called t r
+IsFixed m Called = (bytes : List ℕ) (t u : TableParts) (r : Result Answer Status) → IsTableOfBytes m.sectors bytes t → IsTableOfBytes m.sectors bytes u → Called u r → Called t r
 
 pub row_fixed : (name : NamedParts) (out : List ℕ) (a : ℕ) (m : Map) → IsFixed m (λ t. DrawRowCalls name out t a m)
 row_fixed name out a m bytes t u r is other q = audited_too m (RowCall name out m t a) (RowCall name out m u a) (row_too m.sectors bytes t u is other name out m a) r q

@@ -12,13 +12,13 @@ use Rattle.wad_dir.specs.declared.parts.MapSpot.{MapSpot}
 use Rattle.wad_dir.specs.Kept.{reject_then, spot_then}
 use Rattle.wad_dir.specs.Map.{same_name, spot_of}
 use Rattle.wad_dir.specs.Print.{with_reject}
-use Rattle.wad_dir.specs.Wad.{WadFile, WadLump, names_of, wad_of}
+use Rattle.wad_dir.specs.Wad.{WadFile, WadLump, names_of_lumps, wad_of}
 use Rattle.wad_dir.specs.WadRewrite.Again.{IsReadAgain}
 use Rattle.wad_dir.specs.WadRewrite.Rewrite.{printed}
 use Rattle.wad_dir.proofs.WadRewrite.Reading.{rewritten_is_read}
 use Rattle.map_answers.specs.declared.sight_status.status.Status.{Status}
 use Rattle.map_answers.specs.SightStatus.Answer.{◌>>=◌}
-use Rattle.map_answers.specs.Input.{LocatedMap, found_in, lump_at, map_at, of_spot, of_wad, reading_at, spelled}
+use Rattle.map_answers.specs.Input.{LocatedMap, found_in, lump_at, map_at, of_spot, of_wad, reading_at, spelled_map}
 use Rattle.sight_run.specs.Zero.{of_rewrite, with_table}
 
 -- ---- steps that pass
@@ -64,7 +64,7 @@ with_spot : Bool → WadFile → Result MapSpot MapFault → Result LocatedMap S
 with_spot large w r = of_spot r >>= (λ s. with_map w s (map_at large w s))
 
 with_wad : Bool → List ℕ → Result WadFile WadFault → Result LocatedMap Status
-with_wad large name r = of_wad r >>= (λ w. with_spot large w (spot_of (names_of w) name))
+with_wad large name r = of_wad r >>= (λ w. with_spot large w (spot_of (names_of_lumps w) name))
 
 found_by : (large : Bool) (name bytes : List ℕ) → found_in large name bytes ≡ with_wad large name (wad_of bytes)
 unfolding found_in with_map with_spot with_wad
@@ -72,17 +72,17 @@ found_by large name bytes = refl
 
 pub record WasFound (large : Bool) (name bytes : List ℕ) (found : LocatedMap) : Type 0 where
   pub read : wad_of bytes ≡ Ok found.wad
-  pub spot : spot_of (names_of found.wad) name ≡ Ok found.spot
+  pub spot : spot_of (names_of_lumps found.wad) name ≡ Ok found.spot
   pub map : map_at large found.wad found.spot ≡ Ok found.map
 
 pub was_found : (large : Bool) (name bytes : List ℕ) (found : LocatedMap) → found_in large name bytes ≡ Ok found → WasFound large name bytes found
 unfolding with_map with_spot with_wad
 was_found large name bytes found h =
-    let a = passes (of_wad (wad_of bytes)) (λ w. with_spot large w (spot_of (names_of w) name)) found (sym (found_by large name bytes) ∙ h) in
-    let b = passes (of_spot (spot_of (names_of a.x) name)) (λ s. with_map a.x s (map_at large a.x s)) found a.rest in
+    let a = passes (of_wad (wad_of bytes)) (λ w. with_spot large w (spot_of (names_of_lumps w) name)) found (sym (found_by large name bytes) ∙ h) in
+    let b = passes (of_spot (spot_of (names_of_lumps a.x) name)) (λ s. with_map a.x s (map_at large a.x s)) found a.rest in
     let c = passes (map_at large a.x b.x) (λ m. Ok (found_with a.x b.x m)) found b.rest in
     let is : found_with a.x b.x c.x ≡ found = same_ok (found_with a.x b.x c.x) found c.rest in
-    subst (λ (x : LocatedMap). WasFound large name bytes x) {x = found_with a.x b.x c.x} is (record { read = was_wad (wad_of bytes) a.x a.step; spot = was_spot (spot_of (names_of a.x) name) b.x b.step; map = c.step })
+    subst (λ (x : LocatedMap). WasFound large name bytes x) {x = found_with a.x b.x c.x} is (record { read = was_wad (wad_of bytes) a.x a.step; spot = was_spot (spot_of (names_of_lumps a.x) name) b.x b.step; map = c.step })
 
 pub is_found : (large : Bool) (name bytes : List ℕ) (found : LocatedMap) → WasFound large name bytes found → found_in large name bytes ≡ Ok found
 unfolding with_map with_spot with_wad
@@ -143,4 +143,4 @@ found_again large name old table bytes found h other made =
         → lump_at (with_reject found.wad found.spot table) (spot_then found.spot).vertexes ≡ lump_at found.wad found.spot.vertexes
         → lump_at (with_reject found.wad found.spot table) (spot_then found.spot).sectors ≡ lump_at found.wad found.spot.sectors
         → map_at large (with_reject found.wad found.spot table) (spot_then found.spot) ≡ map_at large found.wad found.spot
-    four a b c d = λ i. spelled found.spot.text (reading_at large found.spot) (a i) (b i) (c i) (d i)
+    four a b c d = λ i. spelled_map found.spot.text (reading_at large found.spot) (a i) (b i) (c i) (d i)

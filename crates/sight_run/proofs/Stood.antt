@@ -12,7 +12,7 @@ use Rattle.map_answers.specs.SightStatus.Answer.{Written}
 use Rattle.map_answers.specs.Input.{LocatedMap, found_in}
 use Rattle.sight_run.specs.Reading.{found_of, of_fetch}
 use Rattle.sight_run.specs.Build.{report_behind, report_output}
-use Rattle.sight_run.specs.Run.{put_all}
+use Rattle.sight_run.specs.Run.{put_outputs}
 use Rattle.sight_run.specs.Words.{asked_of, file_names, given, has_twice, is_built, of_order}
 use Rattle.sight_run.proofs.Round.{passes, same_ok}
 use Rattle.sight_run.proofs.Stores.{put_all_pushed}
@@ -93,15 +93,15 @@ pub under_cert : (files : Files) (out cert bytes spelled : List ℕ) → put (pu
 under_cert files out cert bytes spelled = ap (λ (b : Bool). if b then Some spelled else put files out bytes cert) (bytes_eq-refl cert)
 
 -- the report stands under its name, behind what else is written
-pub under_report : (files : Files) (ws : List Written) (report bytes : List ℕ) → put_all files (report_behind (Some report) bytes ws) report ≡ Some bytes
+pub under_report : (files : Files) (ws : List Written) (report bytes : List ℕ) → put_outputs files (report_behind (Some report) bytes ws) report ≡ Some bytes
 under_report files ws report bytes =
-    ap (λ (f : Files). f report) (put_all_pushed files ws (report_output report bytes)) ∙ ap (λ (b : Bool). if b then Some bytes else put_all files ws report) (bytes_eq-refl report)
+    ap (λ (f : Files). f report) (put_all_pushed files ws (report_output report bytes)) ∙ ap (λ (b : Bool). if b then Some bytes else put_outputs files ws report) (bytes_eq-refl report)
 
 -- what stands under another name than that of the report
-pub before_report : (files : Files) (ws : List Written) (asked : Option (List ℕ)) (report name : List ℕ) → IsOther name asked → put_all files (report_behind asked report ws) name ≡ put_all files ws name
+pub before_report : (files : Files) (ws : List Written) (asked : Option (List ℕ)) (report name : List ℕ) → IsOther name asked → put_outputs files (report_behind asked report ws) name ≡ put_outputs files ws name
 before_report files ws None report name h = refl
 before_report files ws (Some r) report name h =
-    ap (λ (f : Files). f name) (put_all_pushed files ws (report_output r report)) ∙ ap (λ (b : Bool). if b then Some report else put_all files ws name) h
+    ap (λ (f : Files). f name) (put_all_pushed files ws (report_output r report)) ∙ ap (λ (b : Bool). if b then Some report else put_outputs files ws name) h
 
 -- ---- the bytes of a map
 

@@ -14,11 +14,11 @@ use Rattle.sight_names.specs.Order.{Ascends, PairBefore}
 use Rattle.listeners.specs.declared.finding.Finding.{Finding}
 use Rattle.listeners.specs.declared.finding.Kind.{Kind}
 use Rattle.listeners.specs.declared.finding.Kind.TheVariants as kind
-use Rattle.listeners.specs.Findings.{AreFindings, IsKindOf, all_pairs}
+use Rattle.listeners.specs.Findings.{AreFindingsOfMap, IsKindOf, all_pairs_of}
 use Rattle.listeners.specs.Listening.{ListenerState, clears_in, lists_in, sets_in}
-use Rattle.listeners.specs.Told.{AreTold, AreToldInTurn, TellsAll, texts}
-use Rattle.listeners.specs.PairFindings.Counted.{AreCounted}
-use Rattle.listeners.specs.PairFindings.Found.{IsFindingBy, IsKindBy, IsPairOf, findings_of, pair}
+use Rattle.listeners.specs.Told.{AreFindingsTold, AreToldInTurn, TellsAllFindings, texts}
+use Rattle.listeners.specs.PairFindings.Counted.{AreKindsCounted}
+use Rattle.listeners.specs.PairFindings.Found.{IsFindingBy, IsKindBy, IsPairBelow, findings_of, pair}
 use Rattle.listeners.proofs.PairFindings.Counted.{findings_are_counted, sets_by_rows}
 use Rattle.listeners.proofs.PairFindings.Telling.{findings_tell_pairs}
 use Rattle.reject_bits.specs.Parts.{Rejects, TableParts}
@@ -27,14 +27,14 @@ use Rattle.cert_format.specs.Grammar.{IsPairInRange}
 use Rattle.cert_format.specs.declared.cert_groups.cert.AnyCert.TheVariants.{One, Two}
 use Rattle.certificates.specs.declared.certificate.Certificate.{Certificate}
 use Rattle.certificates.specs.declared.certificate.Certificate.TheVariants.{Listing, Exact}
-use Rattle.certificates.specs.Grammar.{IsInOrder, Spells, sizes_of, spelling}
+use Rattle.certificates.specs.Grammar.{IsInOrder, Spells, sizes_of_certificate, spelling}
 use Rattle.map_answers.specs.declared.sight_status.status.Status.{Status}
 use Rattle.map_answers.specs.declared.sight_status.status.Status.TheVariants as status
-use Rattle.map_answers.specs.SightStatus.Answer.{Answer, Gives}
+use Rattle.map_answers.specs.SightStatus.Answer.{Answer, GivesCalled}
 use Rattle.map_answers.specs.Counts.{counts_with, pair_count, set_from, set_pairs}
 use Rattle.map_answers.specs.Input.{LocatedMap}
 use Rattle.sight_run.specs.Build.{BuildCalls, BuildMakes, ShowsBuild, ShowsMade, finding_counts, report_behind, with_report}
-use Rattle.sight_run.specs.Heard.{AreFindingsOf, Heard}
+use Rattle.sight_run.specs.Heard.{AreFindingsOf, ListenersHeard}
 use Rattle.whole_wad.specs.declared.building.Built.{Built}
 use Rattle.whole_wad.specs.Built.{DecidedBy, IsBuiltOf}
 use Rattle.whole_wad.specs.Sizes.{sizes_of_map}
@@ -43,17 +43,17 @@ use Rattle.whole_wad.proofs.OneTable.{list_ascends}
 -- ---- the findings of a build
 
 -- the list has pairs of so many sectors
-fits_in : (m : Map) (method : Method) (built : Built) → IsBuiltOf m method built → AllByRecursion (IsPairOf built.table.n) built.listed
+fits_in : (m : Map) (method : Method) (built : Built) → IsBuiltOf m method built → AllByRecursion (IsPairBelow built.table.n) built.listed
 fits_in m (how.Within ask) built is = within built.cert is.sizes is.in_order is.by_method
   where
-    within : (cert : Certificate) → sizes_of cert ≡ sizes_of_map m → IsInOrder cert → DecidedBy m (how.Within ask) (record { table = built.table; listed = built.listed; cert = cert }) → AllByRecursion (IsPairOf built.table.n) built.listed
+    within : (cert : Certificate) → sizes_of_certificate cert ≡ sizes_of_map m → IsInOrder cert → DecidedBy m (how.Within ask) (record { table = built.table; listed = built.listed; cert = cert }) → AllByRecursion (IsPairBelow built.table.n) built.listed
     within (Listing (One c)) sizes order d = absurd d
     within (Listing (Two c own)) sizes order d =
         let same : own.sectors ≡ built.table.n = ap (λ (s : Sizes). s.sectors) sizes ∙ sym is.sectors in
-        subst (λ (ps : List Pair). AllByRecursion (IsPairOf built.table.n) ps) d.same_list
-        (all_so (IsPairInRange own) (IsPairOf built.table.n) c.listed (λ p k. (k.0, subst (λ (x : ℕ). p.b < x) same k.1)) order.listed)
+        subst (λ (ps : List Pair). AllByRecursion (IsPairBelow built.table.n) ps) d.same_list
+        (all_so (IsPairInRange own) (IsPairBelow built.table.n) c.listed (λ p k. (k.0, subst (λ (x : ℕ). p.b < x) same k.1)) order.listed)
     within (Exact c) sizes order d = absurd d
-fits_in m how.Exact built is = subst (λ (ps : List Pair). AllByRecursion (IsPairOf built.table.n) ps) (sym is.by_method.none_listed) tt
+fits_in m how.Exact built is = subst (λ (ps : List Pair). AllByRecursion (IsPairBelow built.table.n) ps) (sym is.by_method.none_listed) tt
 
 module _ (m : Map) (method : Method) (built : Built) (is : IsBuiltOf m method built) where
   not_listed : (a b : ℕ) → a ≤ b → ¬ Contains built.listed (pair a b) → ¬ IsListedByGroups m is.decided.budget a b
@@ -70,11 +70,11 @@ module _ (m : Map) (method : Method) (built : Built) (is : IsBuiltOf m method bu
     is.sight.seen a b (omega (arith, le, lt)) lt h.1 h.0 (λ c. let back = ((is.decided.listed_are (pair b a)).0 c).0 in omega (arith, le, back)),
   )
 
-  are_findings : AreFindings m is.decided.budget (findings_of built.table built.listed)
+  are_findings : AreFindingsOfMap m is.decided.budget (findings_of built.table built.listed)
   are_findings =
       let tell = findings_tell_pairs built.table built.listed in
       record {
-        pairs = tell.pairs ∙ ap all_pairs is.sectors;
+        pairs = tell.pairs ∙ ap all_pairs_of is.sectors;
         kinds = All-weaker (IsFindingBy built.table built.listed) (λ (f : Finding). IsKindOf m is.decided.budget f.a f.b f.kind)
             (λ f h. kind_is f.a f.b f.kind h.order (subst (λ (n : ℕ). f.b < n) is.sectors h.within) h.kind) (findings_of built.table built.listed) tell.each;
       }
@@ -87,14 +87,14 @@ module _ (m : Map) (method : Method) (built : Built) (is : IsBuiltOf m method bu
   pub list_rises : Ascends PairBefore built.listed
   list_rises = list_ascends m method built is
 
-  pub list_fits : AllByRecursion (IsPairOf built.table.n) built.listed
+  pub list_fits : AllByRecursion (IsPairBelow built.table.n) built.listed
   list_fits = fits_in m method built is
 
   -- a listed pair is clear
   pub list_clear : (p : Pair) → Contains built.listed p → ¬ Rejects built.table p.a p.b
   list_clear p c bit =
       let h = (is.decided.listed_are p).0 c in
-      let within : p.b < m.sectors = subst (λ (n : ℕ). p.b < n) is.sectors (all_at (IsPairOf built.table.n) built.listed list_fits c.0 p (slice_get-get_or built.listed c.0 p c.1 ∙ ap (λ (x : Pair). Some x) c.2)).1 in
+      let within : p.b < m.sectors = subst (λ (n : ℕ). p.b < n) is.sectors (all_at (IsPairBelow built.table.n) built.listed list_fits c.0 p (slice_get-get_or built.listed c.0 p c.1 ∙ ap (λ (x : Pair). Some x) c.2)).1 in
       ((is.decided.bits p.a p.b (let l = h.0 in omega (arith, l, within)) within).0 bit).1 h.1
 
 -- ---- the counts
@@ -102,7 +102,7 @@ module _ (m : Map) (method : Method) (built : Built) (is : IsBuiltOf m method bu
 cleared : (all set clear listed : ℕ) → set + clear + listed ≡ all → all - set - listed ≡ clear
 cleared all set clear listed e = omega (arith, e)
 
-counts_are : (t : TableParts) (listed : List Pair) (n : ℕ) → t.n ≡ n → AreCounted t listed → counts_with t (length listed) ≡ finding_counts n (findings_of t listed)
+counts_are : (t : TableParts) (listed : List Pair) (n : ℕ) → t.n ≡ n → AreKindsCounted t listed → counts_with t (length listed) ≡ finding_counts n (findings_of t listed)
 unfolding set_pairs set_from
 counts_are t listed n sectors h =
     let fs = findings_of t listed in
@@ -114,7 +114,7 @@ counts_are t listed n sectors h =
 -- ---- what is called for
 
 -- those that ended are all that stand apart
-pub told_in_turn : (fs : List Finding) (old new ended_old ended_new : List ListenerState) → TellsAll fs old new ended_old ended_new → ended_old ≡ [] → AreToldInTurn fs old new ended_new
+pub told_in_turn : (fs : List Finding) (old new ended_old ended_new : List ListenerState) → TellsAllFindings fs old new ended_old ended_new → ended_old ≡ [] → AreToldInTurn fs old new ended_new
 told_in_turn fs old new ended_old ended_new h none = subst (λ (es : List ListenerState). AreToldInTurn fs old new es) (sym (h.ended_is ∙ ap (λ (es : List ListenerState). es ++ h.ended) none)) h.told
 
 -- what is made is made of the list and the certificate of the build
@@ -127,18 +127,18 @@ pub shows_of : (name out : List ℕ) (asked : Option (List ℕ)) (found : Locate
     → ShowsMade name out asked found built.table n cert answer → ShowsMade name out asked found built.table (length built.listed) built.cert answer
 shows_of name out asked found built n cert answer len same h = made_of name out asked found built n cert (Ok answer) len same h
 
-pub spells_of : (built : Built) (method : Method) (found : LocatedMap) → IsBuiltOf found.map method built → Spells (sizes_of built.cert) (spelling built.cert) built.cert → Spells (sizes_of_map found.map) (spelling built.cert) built.cert
+pub spells_of : (built : Built) (method : Method) (found : LocatedMap) → IsBuiltOf found.map method built → Spells (sizes_of_certificate built.cert) (spelling built.cert) built.cert → Spells (sizes_of_map found.map) (spelling built.cert) built.cert
 spells_of built method found is h = subst (λ (s : Sizes). Spells s (spelling built.cert) built.cert) is.sizes h
 
-module _ (name out : List ℕ) (asked reported : Option (List ℕ)) (method : Method) (heard : Heard) (found : LocatedMap) (built : Built) (is : IsBuiltOf found.map method built) where
+module _ (name out : List ℕ) (asked reported : Option (List ℕ)) (method : Method) (heard : ListenersHeard) (found : LocatedMap) (built : Built) (is : IsBuiltOf found.map method built) where
   -- a build that told its listeners is what the order calls for
   pub gives_told : (ended : List ListenerState) (answer : Answer) → Spells (sizes_of_map found.map) (spelling built.cert) built.cert → ShowsMade name out asked found built.table (length built.listed) built.cert answer
-      → AreTold (findings_of built.table built.listed) heard.before heard.after (texts ended ++ texts heard.after) → AreToldInTurn (findings_of built.table built.listed) heard.before heard.after ended
-      → Gives (¬ HasClosedFaces found.map) (BuildCalls name out asked reported method heard found) (with_report reported (texts ended ++ texts heard.after) (Ok answer))
+      → AreFindingsTold (findings_of built.table built.listed) heard.before heard.after (texts ended ++ texts heard.after) → AreToldInTurn (findings_of built.table built.listed) heard.before heard.after ended
+      → GivesCalled (¬ HasClosedFaces found.map) (BuildCalls name out asked reported method heard found) (with_report reported (texts ended ++ texts heard.after) (Ok answer))
   gives_told ended answer spells made told in_turn =
       let report = texts ended ++ texts heard.after in
       let whole : Answer = record { writes = report_behind reported report answer.writes; line = answer.line; right = answer.right } in
-      let are_counted : AreCounted built.table built.listed =
+      let are_counted : AreKindsCounted built.table built.listed =
       findings_are_counted built.table built.listed (list_rises found.map method built is) (list_fits found.map method built is) (list_clear found.map method built is) in
       let shows : ShowsBuild name out asked reported method found heard whole = record {
         built = built;
@@ -160,7 +160,7 @@ module _ (name out : List ℕ) (asked reported : Option (List ℕ)) (method : Me
       record { called = shows; only = λ flawed other q. absurd (flawed is.fit) }
 
   -- .. and one whose WAD is above a limit too
-  pub gives_unmade : (s : Status) → BuildMakes name out asked found built.table (length built.listed) built.cert (Err s) → Gives (¬ HasClosedFaces found.map) (BuildCalls name out asked reported method heard found) (Err s)
+  pub gives_unmade : (s : Status) → BuildMakes name out asked found built.table (length built.listed) built.cert (Err s) → GivesCalled (¬ HasClosedFaces found.map) (BuildCalls name out asked reported method heard found) (Err s)
   gives_unmade (status.Limit k) h = record { called = record { built = built; is_built = is; limit = h }; only = λ flawed other q. absurd (flawed is.fit) }
   gives_unmade (status.Memory _) h = tt
   gives_unmade s h = absurd h

@@ -3,7 +3,7 @@ use Rattle.std.proofs.Common.{◌≡◌, ℕ, Bool, true, List, Option, Some, No
 use Rattle.std.specs.Prelude.{IfErr, IfOk, ⊤, string_bytes}
 use Rattle.std.specs.Result.{IsErr}
 use Rattle.shelf_io.specs.Shelf.{Files}
-use Rattle.wad_dir.specs.Wad.{WadFile, names_of}
+use Rattle.wad_dir.specs.Wad.{WadFile, names_of_lumps}
 use Rattle.order_words.specs.declared.order.Order.{Order}
 use Rattle.order_words.specs.declared.order.Order.TheVariants as order
 use Rattle.order_words.specs.declared.order.ReportFile.{ReportFile}
@@ -13,7 +13,7 @@ use Rattle.map_answers.specs.declared.sight_status.status.Bound.TheVariants as b
 use Rattle.map_answers.specs.declared.sight_status.status.Role.TheVariants as role
 use Rattle.map_answers.specs.declared.sight_status.status.Status.{Status}
 use Rattle.map_answers.specs.declared.sight_status.status.Status.TheVariants as status
-use Rattle.map_answers.specs.SightStatus.Answer.{Answer, Gives, IsTheAnswer, Makes, ◌>>=◌}
+use Rattle.map_answers.specs.SightStatus.Answer.{Answer, GivesCalled, IsTheAnswer, MakesAnswer, ◌>>=◌}
 use Rattle.map_answers.specs.SightStatus.Status.{IsOfBytes}
 use Rattle.table_verdicts.specs.declared.verifying.WadVerdict.{WadVerdict}
 use Rattle.table_verdicts.specs.Tallies.{all_right, tally_line}
@@ -33,27 +33,27 @@ use Rattle.sight_run.proofs.Whole.{gives_unread}
 -- ---- the maps
 
 -- a step is refused
-refused_on : {V W D E : Type 0} (view : V → D) (other : W → E) (said : Result D Status) (f : D → Result E Status) (s : Status) → Makes view (Err s) said → Makes other (Err s) (said >>= f)
+refused_on : {V W D E : Type 0} (view : V → D) (other : W → E) (said : Result D Status) (f : D → Result E Status) (s : Status) → MakesAnswer view (Err s) said → MakesAnswer other (Err s) (said >>= f)
 refused_on view other said f (status.Memory _) made = tt
 refused_on view other said f (status.ReadFault k) made = tt
 refused_on {V} {W} {D} {E} view other said f s made = ap (λ (r : Result D Status). r >>= f) made
 
 abbrev maps_then : Option (List (List ℕ)) → WadFile → Result AskedMaps Status
-maps_then only w = maps_in (names_of w) only >>= (λ (maps : List (List ℕ)). Ok (record { wad = w; maps = maps }))
+maps_then only w = maps_in (names_of_lumps w) only >>= (λ (maps : List (List ℕ)). Ok (record { wad = w; maps = maps }))
 
 -- the WAD can't be read
-pub wad_unread : {V : Type 0} (view : V → WadFile) (wad : List ℕ) (only : Option (List (List ℕ))) (files : Files) (s : Status) → Makes view (Err s) (wad_in wad files) → Makes asked_seen (Err s) (asked_in wad only files)
+pub wad_unread : {V : Type 0} (view : V → WadFile) (wad : List ℕ) (only : Option (List (List ℕ))) (files : Files) (s : Status) → MakesAnswer view (Err s) (wad_in wad files) → MakesAnswer asked_seen (Err s) (asked_in wad only files)
 unfolding asked_in
 wad_unread {V} view wad only files s made = refused_on {V = V} {W = ReadMaps} view asked_seen (wad_in wad files) (maps_then only) s made
 
 -- a name is none of a map's
-pub maps_unread : {V : Type 0} (view : V → List (List ℕ)) (wad : List ℕ) (only : Option (List (List ℕ))) (files : Files) (w : WadFile) (s : Status) → wad_in wad files ≡ Ok w → Makes view (Err s) (maps_in (names_of w) only) → Makes asked_seen (Err s) (asked_in wad only files)
+pub maps_unread : {V : Type 0} (view : V → List (List ℕ)) (wad : List ℕ) (only : Option (List (List ℕ))) (files : Files) (w : WadFile) (s : Status) → wad_in wad files ≡ Ok w → MakesAnswer view (Err s) (maps_in (names_of_lumps w) only) → MakesAnswer asked_seen (Err s) (asked_in wad only files)
 unfolding asked_in
 maps_unread {V} view wad only files w s read made =
-    subst (λ (r : Result WadFile Status). Makes asked_seen (Err s) (r >>= maps_then only)) (sym read)
-    (refused_on {V = V} {W = ReadMaps} view asked_seen (maps_in (names_of w) only) (λ (maps : List (List ℕ)). Ok (record { wad = w; maps = maps })) s made)
+    subst (λ (r : Result WadFile Status). MakesAnswer asked_seen (Err s) (r >>= maps_then only)) (sym read)
+    (refused_on {V = V} {W = ReadMaps} view asked_seen (maps_in (names_of_lumps w) only) (λ (maps : List (List ℕ)). Ok (record { wad = w; maps = maps })) s made)
 
-pub maps_read : (wad : List ℕ) (only : Option (List (List ℕ))) (files : Files) (w : WadFile) (maps : List (List ℕ)) → wad_in wad files ≡ Ok w → maps_in (names_of w) only ≡ Ok maps → asked_in wad only files ≡ Ok (record { wad = w; maps = maps })
+pub maps_read : (wad : List ℕ) (only : Option (List (List ℕ))) (files : Files) (w : WadFile) (maps : List (List ℕ)) → wad_in wad files ≡ Ok w → maps_in (names_of_lumps w) only ≡ Ok maps → asked_in wad only files ≡ Ok (record { wad = w; maps = maps })
 unfolding asked_in
 maps_read wad only files w maps read are =
     ap (λ (r : Result WadFile Status). r >>= maps_then only) read ∙ ap (λ (r : Result (List (List ℕ)) Status). r >>= (λ (ms : List (List ℕ)). Ok (record { wad = w; maps = ms }))) are
@@ -77,13 +77,13 @@ names_asked only s h = absurd h
 
 -- ---- the answer
 
-one_alone : (Sole : Type 0) (Called : Result Answer Status → Type 0) (r : Result Answer Status) → Gives ⊤ Called r → Gives Sole Called r
+one_alone : (Sole : Type 0) (Called : Result Answer Status → Type 0) (r : Result Answer Status) → GivesCalled ⊤ Called r → GivesCalled Sole Called r
 one_alone Sole Called (Err (status.Memory _)) h = tt
 one_alone Sole Called (Err (status.ReadFault k)) h = tt
 one_alone Sole Called r h = record { called = h.called; only = λ sole. h.only tt }
 
 -- the maps can't be read
-pub verify_unread : {V : Type 0} (view : V → AskedMaps) (said : Result AskedMaps Status) (Called : AskedMaps → Result Answer Status → Type 0) (s : Status) → Makes view (Err s) said → Gives (IsErr said) (OnRead said Called) (Err s)
+pub verify_unread : {V : Type 0} (view : V → AskedMaps) (said : Result AskedMaps Status) (Called : AskedMaps → Result Answer Status → Type 0) (s : Status) → MakesAnswer view (Err s) said → GivesCalled (IsErr said) (OnRead said Called) (Err s)
 verify_unread {V} view said Called s made = one_alone (IsErr said) (OnRead said Called) (Err s) (gives_unread {V = V} {D = AskedMaps} view said Called s made)
 
 no_err : (asked : AskedMaps) → IsErr {T = AskedMaps} {E = Status} (Ok asked) → ⊥

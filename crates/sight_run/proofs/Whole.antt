@@ -10,7 +10,7 @@ use Rattle.shelf_io.specs.Shelf.{Files, SameCounts, ShelfState, content_of}
 use Rattle.wad_dir.specs.Wad.{WadFile, wad_of}
 use Rattle.wad_dir.specs.AllMaps.All.{HasInOrder}
 use Rattle.wad_dir.specs.AllMaps.Asked.{asked_maps_of}
-use Rattle.wad_dir.specs.AllMaps.Maps.{maps_of}
+use Rattle.wad_dir.specs.AllMaps.Maps.{maps_in_names}
 use Rattle.wad_dir.proofs.AllMaps.AskedMaps.{asked_in_order}
 use Rattle.refused_maps.specs.declared.Refused.{Refused}
 use Rattle.order_words.specs.declared.order.Order.TheVariants as order
@@ -20,7 +20,7 @@ use Rattle.map_answers.specs.declared.sight_status.status.Bound.TheVariants as b
 use Rattle.map_answers.specs.declared.sight_status.status.Role.TheVariants as role
 use Rattle.map_answers.specs.declared.sight_status.status.Status.{Status}
 use Rattle.map_answers.specs.declared.sight_status.status.Status.TheVariants as status
-use Rattle.map_answers.specs.SightStatus.Answer.{Answer, Gives, IsTheAnswer, Makes, ◌>>=◌}
+use Rattle.map_answers.specs.SightStatus.Answer.{Answer, GivesCalled, IsTheAnswer, MakesAnswer, ◌>>=◌}
 use Rattle.map_answers.specs.SightStatus.Status.{IsOfBytes}
 use Rattle.map_answers.specs.Input.{of_wad}
 use Rattle.sight_run.specs.All.{OnRead, all_roles, maps_in, of_asked, wad_in}
@@ -40,26 +40,26 @@ unfolding wad_in
 wad_read wad files bytes w e f = ap (λ (r : Result (List ℕ) Status). r >>= (λ (b : List ℕ). of_wad (wad_of b))) e ∙ f
 
 -- the file can't be read
-pub wad_unfetched : {V : Type 0} (view : V → List ℕ) (wad : List ℕ) (files : Files) (s : Status) → Makes view (Err s) (of_fetch (content_of (files wad) MOST_BYTES)) → Makes {V = WadFile} (λ w. w) (Err s) (wad_in wad files)
+pub wad_unfetched : {V : Type 0} (view : V → List ℕ) (wad : List ℕ) (files : Files) (s : Status) → MakesAnswer view (Err s) (of_fetch (content_of (files wad) MOST_BYTES)) → MakesAnswer {V = WadFile} (λ w. w) (Err s) (wad_in wad files)
 unfolding wad_in
 wad_unfetched view wad files (status.Memory _) made = tt
 wad_unfetched view wad files (status.ReadFault k) made = tt
 wad_unfetched view wad files s made = ap (λ (r : Result (List ℕ) Status). r >>= (λ (b : List ℕ). of_wad (wad_of b))) made
 
 -- its bytes are no WAD
-pub wad_refused : {V : Type 0} (view : V → WadFile) (wad : List ℕ) (files : Files) (bytes : List ℕ) (s : Status) → of_fetch (content_of (files wad) MOST_BYTES) ≡ Ok bytes → Makes view (Err s) (of_wad (wad_of bytes)) → Makes view (Err s) (wad_in wad files)
+pub wad_refused : {V : Type 0} (view : V → WadFile) (wad : List ℕ) (files : Files) (bytes : List ℕ) (s : Status) → of_fetch (content_of (files wad) MOST_BYTES) ≡ Ok bytes → MakesAnswer view (Err s) (of_wad (wad_of bytes)) → MakesAnswer view (Err s) (wad_in wad files)
 unfolding wad_in
-wad_refused view wad files bytes s e made = subst (λ (r : Result (List ℕ) Status). Makes view (Err s) (r >>= (λ (b : List ℕ). of_wad (wad_of b)))) (sym e) made
+wad_refused view wad files bytes s e made = subst (λ (r : Result (List ℕ) Status). MakesAnswer view (Err s) (r >>= (λ (b : List ℕ). of_wad (wad_of b)))) (sym e) made
 
 -- ---- an answer by what was read
 
-pub gives_unread : {V D : Type 0} (view : V → D) (said : Result D Status) (Called : D → Result Answer Status → Type 0) (s : Status) → Makes view (Err s) said → Gives ⊤ (OnRead said Called) (Err s)
+pub gives_unread : {V D : Type 0} (view : V → D) (said : Result D Status) (Called : D → Result Answer Status → Type 0) (s : Status) → MakesAnswer view (Err s) said → GivesCalled ⊤ (OnRead said Called) (Err s)
 gives_unread view said Called (status.Memory _) made = tt
 gives_unread view said Called (status.ReadFault k) made = tt
 gives_unread {V} {D} view said Called s made = subst (λ (r : Result D Status). IsTheAnswer ⊤ (OnRead r Called) (Err s)) (sym made) (record { called = refl; only = λ sole other q. q })
 
-pub gives_read : {D : Type 0} (said : Result D Status) (read : D) (Called : D → Result Answer Status → Type 0) (r : Result Answer Status) → said ≡ Ok read → Gives ⊤ (Called read) r → Gives ⊤ (OnRead said Called) r
-gives_read {D} said read Called r e h = subst (λ (x : Result D Status). Gives ⊤ (OnRead x Called) r) (sym e) h
+pub gives_read : {D : Type 0} (said : Result D Status) (read : D) (Called : D → Result Answer Status → Type 0) (r : Result Answer Status) → said ≡ Ok read → GivesCalled ⊤ (Called read) r → GivesCalled ⊤ (OnRead said Called) r
+gives_read {D} said read Called r e h = subst (λ (x : Result D Status). GivesCalled ⊤ (OnRead x Called) r) (sym e) h
 
 -- ---- the maps that are to be built
 
@@ -68,7 +68,7 @@ was_asked (Ok found) maps h = ap (λ (ms : List (List ℕ)). Ok ms) (same_ok fou
 was_asked (Err fault) maps h = absurd cc
 
 -- they are some of all maps, in order
-pub asked_are_maps : (names : List (List ℕ)) (only : Option (List (List ℕ))) (maps : List (List ℕ)) → maps_in names only ≡ Ok maps → HasInOrder (maps_of names) maps
+pub asked_are_maps : (names : List (List ℕ)) (only : Option (List (List ℕ))) (maps : List (List ℕ)) → maps_in names only ≡ Ok maps → HasInOrder (maps_in_names names) maps
 asked_are_maps names only maps h = asked_in_order names only maps (was_asked (asked_maps_of names only) maps h)
 
 -- ---- refusals and roles
@@ -92,7 +92,7 @@ by_directory (status.Limit bound.Lumps) of h = tt
 by_directory (status.Memory _) of h = tt
 by_directory s of h = absurd h
 
-pub directory_refused : {V : Type 0} (view : V → WadFile) (said : Result WadFile WadFault) (s : Status) → IsOfBytes s → Makes view (Err s) (of_wad said) → IsOfWhole s
+pub directory_refused : {V : Type 0} (view : V → WadFile) (said : Result WadFile WadFault) (s : Status) → IsOfBytes s → MakesAnswer view (Err s) (of_wad said) → IsOfWhole s
 directory_refused view said (status.Memory _) of made = tt
 directory_refused view said (status.ReadFault k) of made = absurd of
 directory_refused view said s of made = by_directory s of (of_directory said s made)

@@ -9,7 +9,7 @@ use Rattle.order_words.specs.declared.order.ReportFile.{ReportFile}
 use Rattle.refused_maps.specs.declared.Refused.{Refused}
 use Rattle.refused_maps.specs.declared.Refused.TheVariants as refused
 use Rattle.shelf_io.specs.Shelf.{Files, content_of}
-use Rattle.wad_dir.specs.Wad.{WadFile, names_of, wad_of}
+use Rattle.wad_dir.specs.Wad.{WadFile, names_of_lumps, wad_of}
 use Rattle.wad_dir.specs.AllMaps.Asked.{asked_maps_of}
 use Rattle.map_answers.specs.declared.sight_status.status.Bound.TheVariants as bound
 use Rattle.map_answers.specs.declared.sight_status.status.Role.{Role}
@@ -22,7 +22,7 @@ use Rattle.whole_wad.specs.declared.outcomes.MapOutcome.{MapOutcome}
 use Rattle.whole_wad.specs.declared.whole.Unmade.{Unmade}
 use Rattle.whole_wad.specs.declared.whole.Unmade.TheVariants as unmade
 use Rattle.whole_wad.specs.Outcomes.{AreOutcomes, clears_of, refusals_of, tables_of}
-use Rattle.whole_wad.specs.Report.{report_of}
+use Rattle.whole_wad.specs.Report.{outcomes_report}
 use Rattle.whole_wad.specs.Stop.{StopsAt}
 use Rattle.whole_wad.specs.Whole.{IsAboveLimit, written_of}
 use Rattle.sight_run.specs.Build.{report_behind, report_roles, wad_output}
@@ -55,12 +55,12 @@ cleared_words refused.Clear cleared = codes " cleared " ++ decimal cleared
 cleared_words other cleared = []
 
 -- how many maps were to be built, how many of them were built and refused, and how many of these got a clear table
-abbrev pub tally_line : Refused → ℕ → ℕ → ℕ → ℕ → List ℕ
-tally_line choice maps built refused cleared = codes "all maps " ++ decimal maps ++ codes " built " ++ decimal built ++ codes " refused " ++ decimal refused ++ cleared_words choice cleared ++ codes "\n"
+abbrev pub build_tally_line : Refused → ℕ → ℕ → ℕ → ℕ → List ℕ
+build_tally_line choice maps built refused cleared = codes "all maps " ++ decimal maps ++ codes " built " ++ decimal built ++ codes " refused " ++ decimal refused ++ cleared_words choice cleared ++ codes "\n"
 
 -- the line of what comes of maps
-abbrev pub tally_of : Refused → List MapOutcome → List ℕ
-tally_of choice outcomes = tally_line choice (length outcomes) (length (tables_of outcomes)) (length (refusals_of outcomes)) (length (clears_of outcomes))
+abbrev pub tally_of_outcomes : Refused → List MapOutcome → List ℕ
+tally_of_outcomes choice outcomes = build_tally_line choice (length outcomes) (length (tables_of outcomes)) (length (refusals_of outcomes)) (length (clears_of outcomes))
 
 -- the WAD is stored first, then the report where it is asked for
 abbrev pub all_writes : List ℕ → List ℕ → Option (List ℕ) → List ℕ → List Written
@@ -78,7 +78,7 @@ pub record ShowsAll (out : List ℕ) (reported : Option ReportFile) (large : Boo
   pub are : AreOutcomes w large maps method choice outcomes
   pub bytes : List ℕ
   pub made : written_of w outcomes ≡ Ok bytes
-  pub is : answer ≡ record { writes = all_writes out bytes (file_in reported) (report_of (spelling_in reported) outcomes); line = tally_of choice outcomes; right = true }
+  pub is : answer ≡ record { writes = all_writes out bytes (file_in reported) (outcomes_report (spelling_in reported) outcomes); line = tally_of_outcomes choice outcomes; right = true }
 
 -- the WAD with all tables is above a limit
 abbrev pub IsTooMuch : WadFile → Bool → List (List ℕ) → Method → Refused → Status → Type 0
@@ -104,4 +104,4 @@ MapsCall out reported large maps method choice w (Err refusal) = IsUnmade w larg
 
 -- The answer that `all` calls for. Where names are given, the maps of these names alone are built; all other lumps stay.
 abbrev pub AllCalls : List ℕ → Bool → Option (List (List ℕ)) → Option ReportFile → Method → Refused → WadFile → Result Answer Status → Type 0
-AllCalls out large only reported method choice w answer = OnRead (maps_in (names_of w) only) (λ maps. MapsCall out reported large maps method choice w) answer
+AllCalls out large only reported method choice w answer = OnRead (maps_in (names_of_lumps w) only) (λ maps. MapsCall out reported large maps method choice w) answer

@@ -1,7 +1,7 @@
 -- The maps of a WAD that are asked for, and what finding them can end with.
 use Rattle.std.specs.Prelude.{ℕ, List, Option, Result, Ok, IsSome, ⊤}
 use Rattle.shelf_io.specs.Shelf.{Files}
-use Rattle.wad_dir.specs.Wad.{WadFile, names_of}
+use Rattle.wad_dir.specs.Wad.{WadFile, names_of_lumps}
 use Rattle.map_answers.specs.declared.sight_status.status.Status.{Status}
 use Rattle.map_answers.specs.declared.sight_status.status.Status.TheVariants as status
 use Rattle.map_answers.specs.SightStatus.Answer.{◌>>=◌}
@@ -16,7 +16,7 @@ pub record AskedMaps : Type 0 where
 unfoldable pub asked_in : List ℕ → Option (List (List ℕ)) → Files → Result AskedMaps Status
 asked_in wad only files = do
   w ← wad_in wad files
-  maps ← maps_in (names_of w) only
+  maps ← maps_in (names_of_lumps w) only
   Ok (record { wad = w; maps = maps })
 
 -- the first name that is none of a map's, or want of memory

@@ -5,9 +5,9 @@ use Rattle.sight_names.specs.Groups.{HasClosedFaces}
 use Rattle.sight_names.specs.Sound.{LinesMeetAtEnds}
 use Rattle.map_audit.specs.Audit.{IsLineFault}
 use Rattle.listeners.specs.declared.finding.Finding.{Finding}
-use Rattle.listeners.specs.Findings.{AreFindings}
+use Rattle.listeners.specs.Findings.{AreFindingsOfMap}
 use Rattle.listeners.specs.Listening.{ListenerState, clears_in, lists_in, sets_in}
-use Rattle.listeners.specs.Told.{AreTold, AreToldInTurn, texts}
+use Rattle.listeners.specs.Told.{AreFindingsTold, AreToldInTurn, texts}
 use Rattle.reject_bits.specs.Parts.{TableParts}
 use Rattle.certificates.specs.declared.certificate.Certificate.{Certificate}
 use Rattle.certificates.specs.Grammar.{Spells, spelling}
@@ -22,7 +22,7 @@ use Rattle.map_answers.specs.declared.sight_status.status.Status.TheVariants as 
 use Rattle.map_answers.specs.SightStatus.Answer.{Answer, Written}
 use Rattle.map_answers.specs.Counts.{counts_with, counts_words}
 use Rattle.map_answers.specs.Input.{LocatedMap}
-use Rattle.sight_run.specs.Heard.{Heard}
+use Rattle.sight_run.specs.Heard.{ListenersHeard}
 use Rattle.whole_wad.specs.declared.building.Built.{Built}
 use Rattle.whole_wad.specs.Built.{IsBuiltOf}
 use Rattle.whole_wad.specs.Sizes.{sizes_of_map}
@@ -83,7 +83,7 @@ with_report reported report (Err refusal) = Err refusal
 -- The file's WAD with the table that was built, the certificate and the report where they are asked for, and a line with the counts of
 -- the table and of the list. The listeners heard the findings of the map by this method in turn, each that has a quota up to its last
 -- set pair; the report is the texts of those that ended, and then of those that are left.
-pub record ShowsBuild (name out : List ℕ) (asked reported : Option (List ℕ)) (method : Method) (found : LocatedMap) (heard : Heard) (answer : Answer) : Type 0 where
+pub record ShowsBuild (name out : List ℕ) (asked reported : Option (List ℕ)) (method : Method) (found : LocatedMap) (heard : ListenersHeard) (answer : Answer) : Type 0 where
   pub built : Built
   pub is_built : IsBuiltOf found.map method built
   pub bytes : List ℕ
@@ -91,14 +91,14 @@ pub record ShowsBuild (name out : List ℕ) (asked reported : Option (List ℕ))
   pub spelled : List ℕ
   pub spells : Spells (sizes_of_map found.map) spelled built.cert
   pub findings : List Finding
-  pub are_findings : AreFindings found.map is_built.decided.budget findings
+  pub are_findings : AreFindingsOfMap found.map is_built.decided.budget findings
   pub ended : List ListenerState
   pub in_turn : AreToldInTurn findings heard.before heard.after ended
   -- the line counts them
   pub counted : counts_with built.table (length built.listed) ≡ finding_counts found.map.sectors findings
   pub report : List ℕ
   pub report_is : report ≡ texts ended ++ texts heard.after
-  pub told : AreTold findings heard.before heard.after report
+  pub told : AreFindingsTold findings heard.before heard.after report
   pub is : answer ≡ record { writes = report_behind reported report (build_writes out bytes asked spelled); line = build_line name (counts_with built.table (length built.listed)); right = true }
 
 -- the WAD with the table that was built is above a limit
@@ -121,7 +121,7 @@ IsUnbuildable (Err refusal) = ⊤
 IsUnbuildable (Ok found) = ¬ HasClosedFaces found.map
 
 -- The answer that `build` calls for. Where the map isn't sound it is the refusal of its audit.
-abbrev pub BuildCalls : List ℕ → List ℕ → Option (List ℕ) → Option (List ℕ) → Method → Heard → LocatedMap → Result Answer Status → Type 0
+abbrev pub BuildCalls : List ℕ → List ℕ → Option (List ℕ) → Option (List ℕ) → Method → ListenersHeard → LocatedMap → Result Answer Status → Type 0
 BuildCalls name out asked reported method heard found (Ok answer) = ShowsBuild name out asked reported method found heard answer
 BuildCalls name out asked reported method heard found (Err (status.BadMap (flaw.Line fault))) = IsLineFault found.map fault
 BuildCalls name out asked reported method heard found (Err (status.BadMap (flaw.Open side))) = LinesMeetAtEnds found.map × HasOpenSide found.map side
@@ -151,5 +151,5 @@ pub record SayOneThing (one other : Answer) : Type 0 where
   pub wad : slice_get one.writes 0 ≡ slice_get other.writes 0
 
 abbrev pub BuildsSayOneThing : Type 0
-BuildsSayOneThing = (name out : List ℕ) (asked reported : Option (List ℕ)) (method : Method) (found : LocatedMap) (heard others : Heard) (one other : Answer)
+BuildsSayOneThing = (name out : List ℕ) (asked reported : Option (List ℕ)) (method : Method) (found : LocatedMap) (heard others : ListenersHeard) (one other : Answer)
     → BuildCalls name out asked reported method heard found (Ok one) → BuildCalls name out asked reported method others found (Ok other) → SayOneThing one other

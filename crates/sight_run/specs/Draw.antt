@@ -11,7 +11,7 @@ use Rattle.map_answers.specs.SightStatus.Answer.{Answer}
 use Rattle.map_answers.specs.SightStatus.Status.{IsOfTableTest}
 use Rattle.map_answers.specs.Input.{LocatedMap, lump_at}
 use Rattle.map_picture.specs.Picture.{NamedParts}
-use Rattle.table_verdicts.specs.MapList.Entry.{places_in}
+use Rattle.table_verdicts.specs.MapList.Entry.{places_of_unit}
 use Rattle.draw_answers.specs.Drawn.{IsOfDrawTest}
 use Rattle.draw_answers.specs.Faults.{DrawFaultsCalls}
 use Rattle.draw_answers.specs.Heat.{DrawHeatCalls}
@@ -19,13 +19,13 @@ use Rattle.draw_answers.specs.Pair.{DrawPairCalls}
 use Rattle.draw_answers.specs.Plan.{DrawPlanCalls}
 use Rattle.draw_answers.specs.Row.{DrawRowCalls}
 use Rattle.sight_run.specs.Build.{IsUnbuildable}
-use Rattle.sight_run.specs.Check.{IsTableOf, of_length, reject_of}
+use Rattle.sight_run.specs.Check.{IsTableOfBytes, of_length, reject_bytes}
 
 module _ (Called : TableParts → Result Answer Status → Type 0) (m : Map) where
   -- the answer is one that the table that these bytes spell calls for
   pub record IsCallIn (bytes : List ℕ) (answer : Result Answer Status) : Type 0 where
     pub table : TableParts
-    pub spelled : IsTableOf m.sectors bytes table
+    pub spelled : IsTableOfBytes m.sectors bytes table
     pub called : Called table answer
 
   -- .. or the refusal where the bytes are none
@@ -35,11 +35,11 @@ module _ (Called : TableParts → Result Answer Status → Type 0) (m : Map) whe
 
 -- the answers that the map's own table calls for
 abbrev pub ByOwnTable : (TableParts → Result Answer Status → Type 0) → LocatedMap → Result Answer Status → Type 0
-ByOwnTable Called found answer = OnTable Called found.map (of_length found.map.sectors (reject_of found)) answer
+ByOwnTable Called found answer = OnTable Called found.map (of_length found.map.sectors (reject_bytes found)) answer
 
 -- the decimal places of the unit in which the points of a map are told
 abbrev pub places_of_map : LocatedMap → ℕ
-places_of_map found = places_in found.spot.format (lump_at found.wad found.spot.linedefs)
+places_of_map found = places_of_unit found.spot.format (lump_at found.wad found.spot.linedefs)
 
 -- how the map is named in its pictures
 abbrev pub named_in : LocatedMap → List ℕ → NamedParts

@@ -5,9 +5,9 @@ use Rattle.sight_names.specs.declared.names.Budget.{Budget}
 use Rattle.sight_names.specs.Enough.{IsBudgetOf}
 use Rattle.sight_names.specs.Map.{Map}
 use Rattle.listeners.specs.declared.finding.Finding.{Finding}
-use Rattle.listeners.specs.Findings.{AreFindings}
+use Rattle.listeners.specs.Findings.{AreFindingsOfMap}
 use Rattle.listeners.specs.Listening.{ListenerState}
-use Rattle.listeners.specs.Told.{AreTold, HeardFronts}
+use Rattle.listeners.specs.Told.{AreFindingsTold, HeardFronts}
 use Rattle.shelf_io.specs.Shelf.{Files}
 use Rattle.order_words.specs.declared.order.Order.{Order}
 use Rattle.order_words.specs.declared.order.Order.TheVariants as order
@@ -20,27 +20,27 @@ use Rattle.whole_wad.specs.Built.{ask_of}
 use Rattle.sight_run.specs.Reading.{found_of}
 
 -- the listeners before a call and after it
-pub record Heard : Type 0 where
+pub record ListenersHeard : Type 0 where
   pub before : List ListenerState
   pub after : List ListenerState
 
-abbrev pub heard_as : List ListenerState → List ListenerState → Heard
+abbrev pub heard_as : List ListenerState → List ListenerState → ListenersHeard
 heard_as before after = record { before = before; after = after }
 
 -- all are as before
-abbrev pub IsUnheard : Heard → Type 0
+abbrev pub IsUnheard : ListenersHeard → Type 0
 IsUnheard heard = heard.after ≡ heard.before
 
 -- findings of a kind were told: each listener heard all of them, and is gone where the last set pair of its quota was among them
-abbrev pub AllHeard : (List Finding → Type 0) → Heard → Type 0
-AllHeard Are heard = (findings : List Finding) × Are findings × (report : List ℕ) × AreTold findings heard.before heard.after report
+abbrev pub AllHeard : (List Finding → Type 0) → ListenersHeard → Type 0
+AllHeard Are heard = (findings : List Finding) × Are findings × (report : List ℕ) × AreFindingsTold findings heard.before heard.after report
 
 -- each listener that is left heard a front of such findings
-abbrev pub FrontsHeard : (List Finding → Type 0) → Heard → Type 0
+abbrev pub FrontsHeard : (List Finding → Type 0) → ListenersHeard → Type 0
 FrontsHeard Are heard = (findings : List Finding) × Are findings × HeardFronts findings heard.before heard.after
 
 -- what a status of a build says of the listeners
-abbrev pub BuildHears : (List Finding → Type 0) → Heard → Status → Type 0
+abbrev pub BuildHears : (List Finding → Type 0) → ListenersHeard → Status → Type 0
 BuildHears Are heard status.Done = AllHeard Are heard
 BuildHears Are heard status.NotRight = AllHeard Are heard
 -- the line of a refusal, or of what was done, couldn't be put
@@ -55,7 +55,7 @@ BuildHears Are heard other = IsUnheard heard
 pub record AreFindingsOf (m : Map) (method : Method) (findings : List Finding) : Type 0 where
   pub allowed : Budget
   pub is_allowed : IsBudgetOf m (ask_of method) allowed
-  pub are : AreFindings m allowed findings
+  pub are : AreFindingsOfMap m allowed findings
 
 -- .. where a map was found
 abbrev pub AreOfFound : Result LocatedMap Status → Method → List Finding → Type 0
@@ -69,16 +69,16 @@ AreFindingsIn (Some files) wad name method findings = AreOfFound (found_of wad n
 
 -- ---- by the order, and by the words
 
-abbrev pub OrderHears : Order → Option Files → Heard → Status → Type 0
+abbrev pub OrderHears : Order → Option Files → ListenersHeard → Status → Type 0
 OrderHears (order.Build wad name out cert report workers method) files heard s = BuildHears (AreFindingsIn files wad name method) heard s
 OrderHears asked files heard s = IsUnheard heard
 
 -- what an order's listeners heard once its map was found
-abbrev pub HearsOn : Order → LocatedMap → Heard → Status → Type 0
+abbrev pub HearsOn : Order → LocatedMap → ListenersHeard → Status → Type 0
 HearsOn (order.Build wad name out cert report workers method) found heard s = BuildHears (AreFindingsOf found.map method) heard s
 HearsOn asked found heard s = IsUnheard heard
 
 -- the listeners of a run that ends with this status
-abbrev pub Hears : Result Order Status → Option Files → Heard → Status → Type 0
+abbrev pub Hears : Result Order Status → Option Files → ListenersHeard → Status → Type 0
 Hears (Ok asked) files heard s = OrderHears asked files heard s
 Hears (Err refusal) files heard s = IsUnheard heard

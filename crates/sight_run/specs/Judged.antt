@@ -16,8 +16,8 @@ use Rattle.cert_checker.specs.Judged.{JudgesRays, JudgesTrees}
 use Rattle.cert_judge.specs.declared.judged.Judged.{Judged}
 use Rattle.cert_judge.specs.Judged.{JudgedBy}
 use Rattle.group_checker.specs.declared.verdict.AnyVerdict.{AnyVerdict}
-use Rattle.group_checker.specs.Judged.{InWordsOfOne, IsYesAny, JudgesOne, TellsGroups, TellsMesh, TellsPairs}
-use Rattle.exact_checker.specs.Judged.{JudgesTrees as JudgesTreesOfThree, TellsPairs as TellsPairsOfThree}
+use Rattle.group_checker.specs.Judged.{InWordsOfOne, IsYesAny, JudgesOne, TellsGroups, TellsMesh, TellsPairsOfTwo}
+use Rattle.exact_checker.specs.Judged.{JudgesTreesOfThree, TellsPairsOfThree}
 use Rattle.any_judge.specs.Accepted.{IsAccepted, TellsSight}
 use Rattle.whole_wad.specs.Sizes.{sizes_of_map}
 
@@ -30,7 +30,7 @@ pub record JudgesTwoOf (m : Map) (t : TableParts) (c : CertTwo) (v : AnyVerdict)
   pub groups : TellsGroups m c v
   pub rays : InWordsOfOne (JudgesRays g c.cert) v
   pub trees : InWordsOfOne (JudgesTrees g c.cert) v
-  pub pairs : InWordsOfOne (TellsPairs g t c) v
+  pub pairs : InWordsOfOne (TellsPairsOfTwo g t c) v
 
 -- .. of one of version 3, in the same order
 pub record JudgesThreeOf (m : Map) (t : TableParts) (c : ExactParts) (v : AnyVerdict) : Type 0 where
@@ -53,12 +53,12 @@ JudgesOf m t (Listing c) v = JudgesListingOf m t c v
 JudgesOf m t (Exact c) v = JudgesThreeOf m t c v
 
 -- what is promised of a verdict on a table by a certificate
-pub record IsJudged (m : Map) (table : TableParts) (cert : Certificate) (verdict : AnyVerdict) : Type 0 where
+pub record IsJudgedOnMap (m : Map) (table : TableParts) (cert : Certificate) (verdict : AnyVerdict) : Type 0 where
   pub exact : JudgesOf m table cert verdict
   -- it is yes exactly where the certificate is accepted for the table, and then the table tells of sight
   pub accepted : IsYesAny verdict ↔ IsAccepted m table.bytes cert
   pub sight : IsYesAny verdict → TellsSight m table cert
 
 -- the verdict by the certificate that the bytes spell for the map, or the first fault where they spell none
-abbrev pub IsJudgement : Map → TableParts → List ℕ → Judged → Type 0
-IsJudgement m table bytes given = JudgedBy (certificate_at (sizes_of_map m) bytes) (IsJudged m table) given
+abbrev pub IsJudgementOnMap : Map → TableParts → List ℕ → Judged → Type 0
+IsJudgementOnMap m table bytes given = JudgedBy (certificate_at (sizes_of_map m) bytes) (IsJudgedOnMap m table) given

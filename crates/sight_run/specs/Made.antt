@@ -24,11 +24,11 @@ IsMadeBy (order.Grid n workers method hexen) s line = GridSays n hexen method s 
 IsMadeBy asked s line = ⊤
 
 -- .. and of words that ask for it
-abbrev pub IsMade : Result Order Status → Status → List ℕ → Type 0
-IsMade (Ok asked) s line = IsMadeBy asked s line
-IsMade (Err refusal) s line = ⊤
+abbrev pub IsLineMade : Result Order Status → Status → List ℕ → Type 0
+IsLineMade (Ok asked) s line = IsMadeBy asked s line
+IsLineMade (Err refusal) s line = ⊤
 
 -- with Done such a line was put
 abbrev pub PutsMade : Result Order Status → SinkState → SinkState → Status → Type 0
-PutsMade said old new status.Done = (line : List ℕ) × IsMade said status.Done line × (new.held ≡ option_map (λ held. held ++ line) old.held)
-PutsMade said old new refusal = IsMade said refusal (text_of refusal)
+PutsMade said old new status.Done = (line : List ℕ) × IsLineMade said status.Done line × (new.held ≡ option_map (λ held. held ++ line) old.held)
+PutsMade said old new refusal = IsLineMade said refusal (text_of refusal)

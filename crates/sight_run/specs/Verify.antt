@@ -5,7 +5,7 @@ use Rattle.shelf_io.specs.Shelf.{Files}
 use Rattle.map_answers.specs.declared.sight_status.status.Status.{Status}
 use Rattle.map_answers.specs.SightStatus.Answer.{Answer}
 use Rattle.table_verdicts.specs.declared.verdict.MapVerdict.{MapVerdict}
-use Rattle.table_verdicts.specs.Report.{report_of}
+use Rattle.table_verdicts.specs.Report.{verdicts_report}
 use Rattle.table_verdicts.specs.Tallies.{all_right, tally_line, tally_of}
 use Rattle.table_verdicts.specs.Verdicts.{AreVerdicts}
 use Rattle.sight_run.specs.All.{OnRead}
@@ -19,7 +19,7 @@ pub record ShowsVerify (reported : Option ReportFile) (large : Bool) (asked : As
   pub verdicts : List MapVerdict
   pub are : AreVerdicts asked.wad large asked.maps verdicts
   pub is : answer ≡ record {
-    writes = report_writes (file_in reported) (report_of (spelling_in reported) verdicts);
+    writes = report_writes (file_in reported) (verdicts_report (spelling_in reported) verdicts);
     line = tally_line (tally_of verdicts);
     right = all_right (tally_of verdicts);
   }

@@ -4,11 +4,11 @@
 ghost use Rattle.std.specs.Prelude.{◌≡◌, ◌+◌, ◌++◌, ◌≤◌, IfErr, IfOk, OnOk, All, Some, length, string_bytes, true, ⊤};
 ghost use Rattle.shelf_io.specs.Shelf.{Files, NoneFell};
 ghost use Rattle.wad_dir.specs.Map.{entry_names};
-ghost use Rattle.wad_dir.specs.Wad.{file_of, names_of};
+ghost use Rattle.wad_dir.specs.Wad.{file_of, names_of_lumps};
 ghost use Rattle.wad_dir.specs.AllMaps.All.{HasInOrder};
-ghost use Rattle.wad_dir.specs.AllMaps.Maps.{maps_of};
-ghost use Rattle.map_answers.specs.SightStatus.Answer.{Gives};
-ghost use Rattle.sight_run.specs.All.{AllCalls, MapsCall, OnRead, all_roles, all_writes, cleared_words, of_unmade, tally_line, wad_in};
+ghost use Rattle.wad_dir.specs.AllMaps.Maps.{maps_in_names};
+ghost use Rattle.map_answers.specs.SightStatus.Answer.{GivesCalled};
+ghost use Rattle.sight_run.specs.All.{AllCalls, MapsCall, OnRead, all_roles, all_writes, cleared_words, of_unmade, build_tally_line, wad_in};
 ghost use Rattle.sight_run.specs.Reply.{replied, reply_seen, roles_of, writes};
 ghost use Rattle.sight_run.specs.Run.{Cause, IsOfAll, IsOfStop};
 ghost use Rattle.sight_run.specs.Words.{file_in};
@@ -44,7 +44,7 @@ fn push_cleared(
 }
 
 fn line_of(alloc: Global, refused: Refused, whole: &WholeWad) -> Result<String, AllocError>
-    ensures { IfOk result (λ line. string_bytes line ≡ tally_line refused whole.now.maps whole.now.built whole.now.refused whole.now.cleared) }
+    ensures { IfOk result (λ line. string_bytes line ≡ build_tally_line refused whole.now.maps whole.now.built whole.now.refused whole.now.cleared) }
 {
     let mut line = String::new(alloc);
     push_count(alloc, &mut line, "all maps ", whole.maps)?;
@@ -63,7 +63,7 @@ fn reply_of(
     refused: Refused,
     whole: WholeWad,
 ) -> Result<Reply, AllocError>
-    ensures reply { IfOk result (λ reply. replied reply ≡ record { writes = all_writes out.now whole.bytes.items (file_in report.now) (string_bytes whole.report); line = tally_line refused whole.maps whole.built whole.refused whole.cleared; right = true }) }
+    ensures reply { IfOk result (λ reply. replied reply ≡ record { writes = all_writes out.now whole.bytes.items (file_in report.now) (string_bytes whole.report); line = build_tally_line refused whole.maps whole.built whole.refused whole.cleared; right = true }) }
     ensures right { IfOk result (λ reply. reply.right ≡ true) }
     ensures roles { IfOk result (λ reply. roles_of (writes reply) ≡ all_roles (file_in report.now)) }
 {
@@ -121,10 +121,10 @@ fn make_reply<R: Threads + Sync, G: Gate + Sync, N: Notice>(
     notice: &N,
 ) -> Result<Reply, Status>
     requires inside { All (λ entry. entry.at + entry.size ≤ length bytes.now) wad.now.entries }
-    requires names { names_of (file_of bytes.now wad.now) ≡ entry_names wad.now.entries }
-    requires among { HasInOrder (maps_of (entry_names wad.now.entries)) maps.now }
+    requires names { names_of_lumps (file_of bytes.now wad.now) ≡ entry_names wad.now.entries }
+    requires among { HasInOrder (maps_in_names (entry_names wad.now.entries)) maps.now }
     requires workers { (1 ≤ workers) × (workers ≤ 64) }
-    ensures called { Gives ⊤ (MapsCall out.now report.now large maps.now method refused (file_of bytes.now wad.now)) (reply_seen result) }
+    ensures called { GivesCalled ⊤ (MapsCall out.now report.now large maps.now method refused (file_of bytes.now wad.now)) (reply_seen result) }
     ensures refusals { IfErr result (IsOfStop refused) }
     ensures roles { IfOk result (λ reply. roles_of (writes reply) ≡ all_roles (file_in report.now)) }
     ensures right { IfOk result (λ reply. reply.right ≡ true) }
@@ -158,7 +158,7 @@ pub fn do_all<R: Threads + Sync, S: Shelf, G: Gate + Sync, N: Notice>(
     notice: &N,
 ) -> Result<Reply, Status>
     requires workers { (1 ≤ workers) × (workers ≤ 64) }
-    ensures told { (files : Files) → (S.state shelf.old).files ≡ Some files → Gives ⊤ (OnRead (wad_in source.now.file files) (AllCalls out.now source.now.large only.now report.now method refused)) (reply_seen result) }
+    ensures told { (files : Files) → (S.state shelf.old).files ≡ Some files → GivesCalled ⊤ (OnRead (wad_in source.now.file files) (AllCalls out.now source.now.large only.now report.now method refused)) (reply_seen result) }
     ensures files { (S.state shelf.new).files ≡ (S.state shelf.old).files }
     ensures begun { (S.state shelf.new).begun ≡ (S.state shelf.old).begun }
     ensures counts { NoneFell (S.state shelf.old) (S.state shelf.new) }

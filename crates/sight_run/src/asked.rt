@@ -3,11 +3,11 @@
 ghost use Rattle.std.specs.Prelude.{◌≡◌, ◌+◌, ◌≤◌, IfErr, IfOk, All, Some, filter, length};
 ghost use Rattle.shelf_io.specs.Shelf.{Files, NoneFell};
 ghost use Rattle.wad_dir.specs.Map.{entry_names, has_name};
-ghost use Rattle.wad_dir.specs.Wad.{file_of, names_of};
+ghost use Rattle.wad_dir.specs.Wad.{file_of, names_of_lumps};
 ghost use Rattle.wad_dir.specs.AllMaps.All.{HasInOrder};
 ghost use Rattle.wad_dir.specs.AllMaps.Asked.{first_fault};
-ghost use Rattle.wad_dir.specs.AllMaps.Maps.{maps_of};
-ghost use Rattle.map_answers.specs.SightStatus.Answer.{Makes};
+ghost use Rattle.wad_dir.specs.AllMaps.Maps.{maps_in_names};
+ghost use Rattle.map_answers.specs.SightStatus.Answer.{MakesAnswer};
 ghost use Rattle.sight_run.specs.All.{maps_in};
 ghost use Rattle.sight_run.specs.Asked.{IsOfNames, asked_in};
 ghost use Rattle.sight_run.specs.Reply.{asked_seen};
@@ -68,7 +68,7 @@ pub fn asked_maps<N: Notice>(
     only: &Option<Items<Text>>,
     notice: &N,
 ) -> Result<Vec<[u8; 8]>, Status>
-    ensures maps { Makes (λ maps. maps.items) result (maps_in (entry_names wad.now.entries) only.now) }
+    ensures maps { MakesAnswer (λ maps. maps.items) result (maps_in (entry_names wad.now.entries) only.now) }
     ensures refusals { IfErr result (IsOfNames only.now) }
 {
     let all = match maps(alloc, wad) {
@@ -104,15 +104,15 @@ pub fn read_asked<S: Shelf, N: Notice>(
     only: &Option<Items<Text>>,
     notice: &N,
 ) -> Result<ReadMaps, Status>
-    ensures told { (files : Files) → (S.state shelf.old).files ≡ Some files → Makes asked_seen result (asked_in wad.now only.now files) }
+    ensures told { (files : Files) → (S.state shelf.old).files ≡ Some files → MakesAnswer asked_seen result (asked_in wad.now only.now files) }
     ensures files { (S.state shelf.new).files ≡ (S.state shelf.old).files }
     ensures begun { (S.state shelf.new).begun ≡ (S.state shelf.old).begun }
     ensures counts { NoneFell (S.state shelf.old) (S.state shelf.new) }
     ensures cause { Cause (S.state shelf.old) (S.state shelf.new) result }
     ensures refusals { IfErr result (IsOfAsked only.now) }
     ensures inside { IfOk result (λ asked. All (λ entry. entry.at + entry.size ≤ length asked.bytes.items) asked.wad.entries) }
-    ensures names { IfOk result (λ asked. names_of (file_of asked.bytes.items asked.wad) ≡ entry_names asked.wad.entries) }
-    ensures among { IfOk result (λ asked. HasInOrder (maps_of (entry_names asked.wad.entries)) asked.maps.items) }
+    ensures names { IfOk result (λ asked. names_of_lumps (file_of asked.bytes.items asked.wad) ≡ entry_names asked.wad.entries) }
+    ensures among { IfOk result (λ asked. HasInOrder (maps_in_names (entry_names asked.wad.entries)) asked.maps.items) }
 {
     let bytes = fetch_wad(alloc, shelf, wad)?;
     let wad = directory(alloc, &bytes)?;

@@ -5,8 +5,8 @@ ghost use Rattle.draw_answers.specs.Drawn.{drawn_answer};
 ghost use Rattle.map_answers.specs.declared.sight_status.status.Role.TheVariants.{Picture};
 ghost use Rattle.map_answers.specs.declared.sight_status.status.Status.TheVariants as status;
 ghost use Rattle.map_answers.specs.Input.{lump_at};
-ghost use Rattle.map_answers.specs.Views.{IsWhole, found};
-ghost use Rattle.map_answers.specs.SightStatus.Answer.{Gives};
+ghost use Rattle.map_answers.specs.Views.{IsInputWhole, located_map};
+ghost use Rattle.map_answers.specs.SightStatus.Answer.{GivesCalled};
 ghost use Rattle.sight_run.specs.Draw.{DrawCalls, HasOneDrawing, HeatOfMap, IsOfDrawing, RowOfMap, ViewCalls, places_of_map};
 ghost use Rattle.sight_run.specs.Reply.{reply_seen, roles_of, writes};
 
@@ -22,8 +22,8 @@ use table_verdicts::map_list::places_of;
 
 /// The picture of the row of a sector in the map's own table.
 fn draw_row_of(alloc: Global, input: &Input, name: &Named<'_>, a: u16) -> Result<Drawn, Status>
-    requires { IsWhole input.now }
-    ensures judged { (out : List ℕ) → Gives ⊤ (RowOfMap name.now out a (found input.now)) (drawn_answer out result) }
+    requires { IsInputWhole input.now }
+    ensures judged { (out : List ℕ) → GivesCalled ⊤ (RowOfMap name.now out a (located_map input.now)) (drawn_answer out result) }
     ensures refusals { IfErr result IsOfDrawing }
 {
     let plan = &input.plan;
@@ -33,8 +33,8 @@ fn draw_row_of(alloc: Global, input: &Input, name: &Named<'_>, a: u16) -> Result
 
 /// The picture of how much each sector may see by the map's own table.
 fn draw_heat_of(alloc: Global, input: &Input, name: &Named<'_>) -> Result<Drawn, Status>
-    requires { IsWhole input.now }
-    ensures judged { (out : List ℕ) → Gives ⊤ (HeatOfMap name.now out (found input.now)) (drawn_answer out result) }
+    requires { IsInputWhole input.now }
+    ensures judged { (out : List ℕ) → GivesCalled ⊤ (HeatOfMap name.now out (located_map input.now)) (drawn_answer out result) }
     ensures refusals { IfErr result IsOfDrawing }
 {
     let plan = &input.plan;
@@ -44,8 +44,8 @@ fn draw_heat_of(alloc: Global, input: &Input, name: &Named<'_>) -> Result<Drawn,
 
 /// What is drawn of a map that was found.
 fn draw_view(alloc: Global, input: &Input, name: &Named<'_>, view: View) -> Result<Drawn, Status>
-    requires { IsWhole input.now }
-    ensures judged { (out : List ℕ) → Gives (HasOneDrawing view (Ok (found input.now))) (ViewCalls name.now out view (found input.now)) (drawn_answer out result) }
+    requires { IsInputWhole input.now }
+    ensures judged { (out : List ℕ) → GivesCalled (HasOneDrawing view (Ok (located_map input.now))) (ViewCalls name.now out view (located_map input.now)) (drawn_answer out result) }
     ensures refusals { IfErr result IsOfDrawing }
 {
     match view {
@@ -59,8 +59,8 @@ fn draw_view(alloc: Global, input: &Input, name: &Named<'_>, view: View) -> Resu
 
 /// The bytes of the map's LINEDEFS, or of its text.
 fn linedefs_of(input: &Input) -> &[u8]
-    requires { IsWhole input.now }
-    ensures { result.now ≡ lump_at (found input.now).wad (found input.now).spot.linedefs }
+    requires { IsInputWhole input.now }
+    ensures { result.now ≡ lump_at (located_map input.now).wad (located_map input.now).spot.linedefs }
 {
     let k = input.spot.linedefs;
     if (k as usize) < input.wad.entries.as_slice().len() {
@@ -72,8 +72,8 @@ fn linedefs_of(input: &Input) -> &[u8]
 
 /// The decimal places of the unit in which the map's points are told.
 fn map_places(alloc: Global, input: &Input) -> Result<u8, Status>
-    requires { IsWhole input.now }
-    ensures places { IfOk result (λ places. places ≡ places_of_map (found input.now)) }
+    requires { IsInputWhole input.now }
+    ensures places { IfOk result (λ places. places ≡ places_of_map (located_map input.now)) }
     ensures refusals { IfErr result (λ s. s ≡ status.Memory tt) }
 {
     match places_of(alloc, input.spot.format, linedefs_of(input)) {
@@ -84,8 +84,8 @@ fn map_places(alloc: Global, input: &Input) -> Result<u8, Status>
 
 /// What is drawn of a map of this name that was found.
 fn draw_named(alloc: Global, input: &Input, name: &str, view: View) -> Result<Drawn, Status>
-    requires { IsWhole input.now }
-    ensures judged { (out : List ℕ) → Gives (HasOneDrawing view (Ok (found input.now))) (DrawCalls name.now out view (found input.now)) (drawn_answer out result) }
+    requires { IsInputWhole input.now }
+    ensures judged { (out : List ℕ) → GivesCalled (HasOneDrawing view (Ok (located_map input.now))) (DrawCalls name.now out view (located_map input.now)) (drawn_answer out result) }
     ensures refusals { IfErr result IsOfDrawing }
 {
     let places = map_places(alloc, input)?;
@@ -101,8 +101,8 @@ pub fn make_drawing(
     out: &str,
     view: View,
 ) -> Result<Reply, Status>
-    requires { IsWhole input.now }
-    ensures called { Gives (HasOneDrawing view (Ok (found input.now))) (DrawCalls name.now out.now view (found input.now)) (reply_seen result) }
+    requires { IsInputWhole input.now }
+    ensures called { GivesCalled (HasOneDrawing view (Ok (located_map input.now))) (DrawCalls name.now out.now view (located_map input.now)) (reply_seen result) }
     ensures refusals { IfErr result IsOfDrawing }
     ensures roles { IfOk result (λ reply. roles_of (writes reply) ≡ Picture ∷ []) }
     ensures right { IfOk result (λ reply. reply.right ≡ true) }

@@ -4,11 +4,11 @@ ghost use Rattle.std.specs.Prelude.{◌≡◌, IfErr, IfOk, Some};
 ghost use Rattle.sight_names.specs.Map.{map_of};
 ghost use Rattle.sight_names.specs.Sound.{LinesMeetAtEnds};
 ghost use Rattle.shelf_io.specs.Shelf.{Files, NoneFell, content_of};
-ghost use Rattle.cert_format.specs.Sizes.{sizes_of};
-ghost use Rattle.certificates.specs.Grammar.{IsInOrder, sizes_of as sizes_in};
+ghost use Rattle.cert_format.specs.Sizes.{sizes_of_plan};
+ghost use Rattle.certificates.specs.Grammar.{IsInOrder, sizes_of_certificate as sizes_in};
 ghost use Rattle.map_answers.specs.SightStatus.Status.{IsOfCertFetch};
 ghost use Rattle.sight_run.specs.Check.{JudgesFetched, of_cert_fetch};
-ghost use Rattle.sight_run.specs.Judged.{IsJudged, IsJudgement};
+ghost use Rattle.sight_run.specs.Judged.{IsJudgedOnMap, IsJudgementOnMap};
 ghost use Rattle.sight_run.specs.Run.{Cause};
 
 use any_judge::cert_file::judge_file;
@@ -32,9 +32,9 @@ pub fn verdict_of(
 ) -> Result<AnyVerdict, Memory>
     requires audited { LinesMeetAtEnds (map_of plan.now) }
     requires table { table.now.n ≡ plan.now.sectors }
-    requires sizes { sizes_in cert.now ≡ sizes_of plan.now }
+    requires sizes { sizes_in cert.now ≡ sizes_of_plan plan.now }
     requires in_order { IsInOrder cert.now }
-    ensures { IfOk result (IsJudged (map_of plan.now) table.now cert.now) }
+    ensures { IfOk result (IsJudgedOnMap (map_of plan.now) table.now cert.now) }
 {
     let _points = plan.points();
     match check(alloc, plan, table, cert) {
@@ -53,7 +53,7 @@ pub fn judged_in<S: Shelf>(
 ) -> Result<Judged, Status>
     requires audited { LinesMeetAtEnds (map_of plan.now) }
     requires table { table.now.n ≡ plan.now.sectors }
-    ensures told { (files : Files) → (S.state shelf.old).files ≡ Some files → JudgesFetched (IsJudgement (map_of plan.now) table.now) result (of_cert_fetch (content_of (files name.now) 9223372036854775807)) }
+    ensures told { (files : Files) → (S.state shelf.old).files ≡ Some files → JudgesFetched (IsJudgementOnMap (map_of plan.now) table.now) result (of_cert_fetch (content_of (files name.now) 9223372036854775807)) }
     ensures files { (S.state shelf.new).files ≡ (S.state shelf.old).files }
     ensures begun { (S.state shelf.new).begun ≡ (S.state shelf.old).begun }
     ensures counts { NoneFell (S.state shelf.old) (S.state shelf.new) }

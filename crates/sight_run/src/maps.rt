@@ -3,10 +3,10 @@
 ghost use Rattle.std.specs.Prelude.{◌≡◌, ◌+◌, ◌≤◌, IfErr, IfOk, All, Some, is_none, length, string_bytes, true, ⊤};
 ghost use Rattle.shelf_io.specs.Shelf.{Files, NoneFell};
 ghost use Rattle.wad_dir.specs.Map.{entry_names};
-ghost use Rattle.wad_dir.specs.Wad.{file_of, names_of};
+ghost use Rattle.wad_dir.specs.Wad.{file_of, names_of_lumps};
 ghost use Rattle.wad_dir.specs.AllMaps.All.{HasInOrder};
-ghost use Rattle.wad_dir.specs.AllMaps.Maps.{maps_of};
-ghost use Rattle.map_answers.specs.SightStatus.Answer.{Gives};
+ghost use Rattle.wad_dir.specs.AllMaps.Maps.{maps_in_names};
+ghost use Rattle.map_answers.specs.SightStatus.Answer.{GivesCalled};
 ghost use Rattle.table_verdicts.specs.MapList.Totals.{list_line};
 ghost use Rattle.sight_run.specs.Build.{report_roles, report_writes};
 ghost use Rattle.sight_run.specs.Maps.{MapsCalls, asked_answer};
@@ -33,8 +33,8 @@ fn list_on<N: Notice>(
     notice: &N,
 ) -> Result<Reply, Memory>
     requires inside { All (λ entry. entry.at + entry.size ≤ length asked.now.bytes.items) asked.now.wad.entries }
-    requires names { names_of (file_of asked.now.bytes.items asked.now.wad) ≡ entry_names asked.now.wad.entries }
-    requires among { HasInOrder (maps_of (entry_names asked.now.wad.entries)) asked.now.maps.items }
+    requires names { names_of_lumps (file_of asked.now.bytes.items asked.now.wad) ≡ entry_names asked.now.wad.entries }
+    requires among { HasInOrder (maps_in_names (entry_names asked.now.wad.entries)) asked.now.maps.items }
     ensures shows { IfOk result (λ reply. replied reply ≡ asked_answer report.now large (asked_seen asked.now)) }
     ensures roles { IfOk result (λ reply. roles_of (writes reply) ≡ report_roles (file_in report.now)) }
 {
@@ -62,7 +62,7 @@ pub fn do_maps<S: Shelf, N: Notice>(
     notice: &N,
 ) -> Result<Reply, Status>
     ensures told { (files : Files) → (S.state shelf.old).files ≡ Some files →
-        Gives ⊤ (MapsCalls source.now.file source.now.large only.now report.now files) (reply_seen result) }
+        GivesCalled ⊤ (MapsCalls source.now.file source.now.large only.now report.now files) (reply_seen result) }
     ensures files { (S.state shelf.new).files ≡ (S.state shelf.old).files }
     ensures begun { (S.state shelf.new).begun ≡ (S.state shelf.old).begun }
     ensures counts { NoneFell (S.state shelf.old) (S.state shelf.new) }

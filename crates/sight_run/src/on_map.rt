@@ -5,12 +5,12 @@ ghost use Rattle.std.specs.Option.{option_map};
 ghost use Rattle.listeners.specs.Told.{texts};
 ghost use Rattle.shelf_io.specs.Shelf.{Files, NoneFell};
 ghost use Rattle.map_answers.specs.Noise.{HasDampers};
-ghost use Rattle.map_answers.specs.SightStatus.Answer.{Gives, line_answer, status_of};
+ghost use Rattle.map_answers.specs.SightStatus.Answer.{GivesCalled, line_answer, status_of};
 ghost use Rattle.map_answers.specs.SightStatus.Status.{IsProper};
-ghost use Rattle.map_answers.specs.Views.{IsWhole, found};
+ghost use Rattle.map_answers.specs.Views.{IsInputWhole, located_map};
 ghost use Rattle.sight_run.specs.Build.{with_report};
-ghost use Rattle.sight_run.specs.Heard.{Heard, HearsOn, heard_as};
-ghost use Rattle.sight_run.specs.Obeys.{CallsOn, HasOneOn, IsOfLine, IsOfMapAlone, WritesEach, map_asked, report_of};
+ghost use Rattle.sight_run.specs.Heard.{ListenersHeard, HearsOn, heard_as};
+ghost use Rattle.sight_run.specs.Obeys.{CallsOn, HasOneOn, IsOfLine, IsOfMapAlone, WritesEach, map_asked, report_asked};
 ghost use Rattle.sight_run.specs.Reply.{reply_seen, roles_of, writes};
 ghost use Rattle.sight_run.specs.Run.{Cause, EndsRight, IsOfOrder, IsPastReading, IsUnstored};
 ghost use Rattle.sight_run.specs.Words.{is_built};
@@ -54,10 +54,10 @@ pub fn asked_map(order: &Order) -> Option<(&Source, &str)>
 
 /// The line that an order calls for which asks for a line alone.
 fn line_on(alloc: Global, order: &Order, input: &Input) -> Result<String, Status>
-    requires whole { IsWhole input.now }
+    requires whole { IsInputWhole input.now }
     requires dampers { HasDampers input.now }
     requires line { IsOfLine order.now }
-    ensures called { (files : Files) (heard : Heard) → Gives (HasOneOn order.now (Ok (found input.now))) (CallsOn order.now files heard (found input.now)) (line_answer result) }
+    ensures called { (files : Files) (heard : ListenersHeard) → GivesCalled (HasOneOn order.now (Ok (located_map input.now))) (CallsOn order.now files heard (located_map input.now)) (line_answer result) }
     ensures refusals { IfErr result (IsOfOrder order.now) }
     ensures past { IfErr result IsPastReading }
     ensures proper { IfErr result IsProper }
@@ -76,10 +76,10 @@ fn line_on(alloc: Global, order: &Order, input: &Input) -> Result<String, Status
 
 /// The same, as a reply.
 fn line_reply(alloc: Global, order: &Order, input: &Input) -> Result<Reply, Status>
-    requires whole { IsWhole input.now }
+    requires whole { IsInputWhole input.now }
     requires dampers { HasDampers input.now }
     requires line { IsOfLine order.now }
-    ensures called { (files : Files) (heard : Heard) → Gives (HasOneOn order.now (Ok (found input.now))) (CallsOn order.now files heard (found input.now)) (reply_seen result) }
+    ensures called { (files : Files) (heard : ListenersHeard) → GivesCalled (HasOneOn order.now (Ok (located_map input.now))) (CallsOn order.now files heard (located_map input.now)) (reply_seen result) }
     ensures refusals { IfErr result (IsOfOrder order.now) }
     ensures past { IfErr result IsPastReading }
     ensures proper { IfErr result IsProper }
@@ -91,10 +91,10 @@ fn line_reply(alloc: Global, order: &Order, input: &Input) -> Result<Reply, Stat
 
 /// What an order calls for that is answered from its map alone.
 fn answer_on(alloc: Global, order: &Order, input: &Input) -> Result<Reply, Status>
-    requires whole { IsWhole input.now }
+    requires whole { IsInputWhole input.now }
     requires dampers { HasDampers input.now }
     requires alone { IsOfMapAlone order.now }
-    ensures called { (files : Files) (heard : Heard) → Gives (HasOneOn order.now (Ok (found input.now))) (CallsOn order.now files heard (found input.now)) (reply_seen result) }
+    ensures called { (files : Files) (heard : ListenersHeard) → GivesCalled (HasOneOn order.now (Ok (located_map input.now))) (CallsOn order.now files heard (located_map input.now)) (reply_seen result) }
     ensures refusals { IfErr result (IsOfOrder order.now) }
     ensures past { IfErr result IsPastReading }
     ensures proper { IfErr result IsProper }
@@ -128,13 +128,13 @@ pub fn reply_on<R: Threads + Sync, S: Shelf, G: Gate + Sync>(
 ) -> Result<Reply, Status>
     requires built { IsTrue (is_built order.now) }
     requires asks { IsSome (map_asked order.now) }
-    requires whole { IsWhole input }
+    requires whole { IsInputWhole input }
     requires dampers { HasDampers input }
     requires none { ended.old.items ≡ [] }
     ensures told { (files : Files) → (S.state shelf.old).files ≡ Some files →
-        Gives (HasOneOn order.now (Ok (found input))) (CallsOn order.now files (heard_as (map (λ b. listener_state b) listeners.old.items) (map (λ b. listener_state b) listeners.new.items)) (found input))
-        (with_report (report_of order.now) (texts (map (λ b. listener_state b) ended.new.items) ++ texts (map (λ b. listener_state b) listeners.new.items)) (reply_seen result)) }
-    ensures heard { HearsOn order.now (found input) (heard_as (map (λ b. listener_state b) listeners.old.items) (map (λ b. listener_state b) listeners.new.items)) (status_of (reply_seen result)) }
+        GivesCalled (HasOneOn order.now (Ok (located_map input))) (CallsOn order.now files (heard_as (map (λ b. listener_state b) listeners.old.items) (map (λ b. listener_state b) listeners.new.items)) (located_map input))
+        (with_report (report_asked order.now) (texts (map (λ b. listener_state b) ended.new.items) ++ texts (map (λ b. listener_state b) listeners.new.items)) (reply_seen result)) }
+    ensures heard { HearsOn order.now (located_map input) (heard_as (map (λ b. listener_state b) listeners.old.items) (map (λ b. listener_state b) listeners.new.items)) (status_of (reply_seen result)) }
     ensures files { (S.state shelf.new).files ≡ (S.state shelf.old).files }
     ensures begun { (S.state shelf.new).begun ≡ (S.state shelf.old).begun }
     ensures counts { NoneFell (S.state shelf.old) (S.state shelf.new) }

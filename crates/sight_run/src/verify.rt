@@ -3,10 +3,10 @@
 ghost use Rattle.std.specs.Prelude.{◌≡◌, ◌+◌, ◌≤◌, IfErr, IfOk, IsErr, All, Some, length, string_bytes};
 ghost use Rattle.shelf_io.specs.Shelf.{Files, NoneFell};
 ghost use Rattle.wad_dir.specs.Map.{entry_names};
-ghost use Rattle.wad_dir.specs.Wad.{file_of, names_of};
+ghost use Rattle.wad_dir.specs.Wad.{file_of, names_of_lumps};
 ghost use Rattle.wad_dir.specs.AllMaps.All.{HasInOrder};
-ghost use Rattle.wad_dir.specs.AllMaps.Maps.{maps_of};
-ghost use Rattle.map_answers.specs.SightStatus.Answer.{Gives};
+ghost use Rattle.wad_dir.specs.AllMaps.Maps.{maps_in_names};
+ghost use Rattle.map_answers.specs.SightStatus.Answer.{GivesCalled};
 ghost use Rattle.table_verdicts.specs.Tallies.{all_right, tally_line};
 ghost use Rattle.sight_run.specs.Asked.{asked_in};
 ghost use Rattle.sight_run.specs.Build.{report_roles, report_writes};
@@ -53,8 +53,8 @@ fn verdict_on<R: Threads + Sync, G: Gate + Sync, N: Notice>(
     notice: &N,
 ) -> Result<Reply, Memory>
     requires inside { All (λ entry. entry.at + entry.size ≤ length asked.now.bytes.items) asked.now.wad.entries }
-    requires names { names_of (file_of asked.now.bytes.items asked.now.wad) ≡ entry_names asked.now.wad.entries }
-    requires among { HasInOrder (maps_of (entry_names asked.now.wad.entries)) asked.now.maps.items }
+    requires names { names_of_lumps (file_of asked.now.bytes.items asked.now.wad) ≡ entry_names asked.now.wad.entries }
+    requires among { HasInOrder (maps_in_names (entry_names asked.now.wad.entries)) asked.now.maps.items }
     requires workers { (1 ≤ workers) × (workers ≤ 64) }
     ensures shows { IfOk result (λ reply. ShowsVerify report.now large (asked_seen asked.now) (replied reply)) }
     ensures roles { IfOk result (λ reply. roles_of (writes reply) ≡ report_roles (file_in report.now)) }
@@ -89,7 +89,7 @@ pub fn do_verify<R: Threads + Sync, S: Shelf, G: Gate + Sync, N: Notice>(
 ) -> Result<Reply, Status>
     requires workers { (1 ≤ workers) × (workers ≤ 64) }
     ensures told { (files : Files) → (S.state shelf.old).files ≡ Some files →
-        Gives (IsErr (asked_in source.now.file only.now files)) (VerifyCalls source.now.file source.now.large only.now report.now files) (reply_seen result) }
+        GivesCalled (IsErr (asked_in source.now.file only.now files)) (VerifyCalls source.now.file source.now.large only.now report.now files) (reply_seen result) }
     ensures files { (S.state shelf.new).files ≡ (S.state shelf.old).files }
     ensures begun { (S.state shelf.new).begun ≡ (S.state shelf.old).begun }
     ensures counts { NoneFell (S.state shelf.old) (S.state shelf.new) }

@@ -11,9 +11,9 @@ use Rattle.sight_workers.specs.declared.view.View.{View}
 use Rattle.sight_workers.specs.Board.{claims_of}
 use Rattle.sight_workers.specs.Claimants.{NamesClaimants, AreClaimants}
 use Rattle.sight_workers.specs.Claims.{lows}
-use Rattle.sight_workers.specs.Ends.{IsOver, IsComplete}
+use Rattle.sight_workers.specs.Ends.{IsViewOver, IsViewComplete}
 use Rattle.sight_workers.specs.Plays.{keeper_joined}
-use Rattle.sight_workers.specs.Teams.{source_of}
+use Rattle.sight_workers.specs.Teams.{source_of_result}
 use Rattle.sight_workers.proofs.Hands.{lows_append}
 use Rattle.sight_workers.proofs.Orders.{not_here}
 use Rattle.sight_workers.proofs.Walks.{from_map}
@@ -87,7 +87,7 @@ low_there n k (c ∷ cs) l h = dite (ℕ_discrete c.1 k)
     further false i = i
 
 -- once a worker's seat is joined, and it is noted at the sources of its results
-pub names_more : (n : ℕ) (v u : View) (worker : ℕ) (rs : List SourceResult) (old new : List ℕ) → ((c : ℕ × ℕ) → Contains u.claims c → c.0 ≡ worker) → map source_of rs ≡ lows n u.claims
+pub names_more : (n : ℕ) (v u : View) (worker : ℕ) (rs : List SourceResult) (old new : List ℕ) → ((c : ℕ × ℕ) → Contains u.claims c → c.0 ≡ worker) → map source_of_result rs ≡ lows n u.claims
     → ((r : SourceResult) (w : ℕ) → Contains rs r → slice_get new r.source ≡ Some w → w ≡ worker) → ((k w : ℕ) → slice_get new k ≡ Some w → ((r : SourceResult) × Contains rs r × (r.source ≡ k)) ⊎ (slice_get old k ≡ Some w))
     → NamesClaimants n v old → NamesClaimants n (keeper_joined v u) new
 names_more n v u worker rs old new own sources noted kept names k w low at =
@@ -96,17 +96,17 @@ names_more n v u worker rs old new own sources noted kept names k w low at =
         | inl r ↦ theirs r
         | inr same ↦ contains_left (w, k) v.claims u.claims (names k w before same)
       ]
-      | inr now ↦ theirs (from_map source_of rs k (subst (λ (ks : List ℕ). Contains ks k) (sym sources) now))
+      | inr now ↦ theirs (from_map source_of_result rs k (subst (λ (ks : List ℕ). Contains ks k) (sym sources) now))
     ]
   where
     theirs : (r : SourceResult) × Contains rs r × (r.source ≡ k) → Contains (v.claims ++ u.claims) (w, k)
     theirs (r, there, is) =
         let same : w ≡ worker = noted r w there (subst (λ (x : ℕ). slice_get new x ≡ Some w) (sym is) at) in
-        let claimed : Contains (lows n u.claims) k = subst (λ (ks : List ℕ). Contains ks k) sources (subst (λ (x : ℕ). Contains (map source_of rs) x) is (contains_map source_of rs r there)) in
+        let claimed : Contains (lows n u.claims) k = subst (λ (ks : List ℕ). Contains ks k) sources (subst (λ (x : ℕ). Contains (map source_of_result rs) x) is (contains_map source_of_result rs r there)) in
         subst (λ (x : ℕ). Contains (v.claims ++ u.claims) (x, k)) (sym same) (contains_right (worker, k) v.claims u.claims (low_claimed n k worker u.claims own claimed))
 
 -- once all seats were joined, each source's worker is the one that claimed it
-pub all_named : (t : Task) (n : ℕ) (v : View) (workers : List ℕ) → v.task ≡ t → n ≡ t.plan.sectors → IsOver v → IsComplete v → NamesClaimants n v workers → AreClaimants t workers
+pub all_named : (t : Task) (n : ℕ) (v : View) (workers : List ℕ) → v.task ≡ t → n ≡ t.plan.sectors → IsViewOver v → IsViewComplete v → NamesClaimants n v workers → AreClaimants t workers
 all_named t n v workers task same over complete names = record {
   view = v;
   task = task;

@@ -18,9 +18,9 @@ use Rattle.sight_names.specs.declared.names.Pair.{Pair}
 use Rattle.sight_workers.specs.declared.view.Task.{Task}
 use Rattle.sight_workers.specs.declared.view.View.{View}
 use Rattle.sight_workers.specs.declared.view.SeatRole.TheVariants.{Worker, Spent}
-use Rattle.sight_workers.specs.Board.{Holds, IsFindable, IsPair, IsSet, bit_of, has_over, number_of, overs, word_count, word_of}
-use Rattle.sight_workers.specs.Plays.{with_claim, with_look, with_mark}
-use Rattle.sight_workers.specs.Steps.{Follows, IsSeatAt, Shows, pair_of}
+use Rattle.sight_workers.specs.Board.{Holds, IsFindable, IsBoardPair, IsBitSet, bit_in_word, has_over, worker_number, overs, word_count, bit_word_of}
+use Rattle.sight_workers.specs.Plays.{with_claim_in_view, with_look, with_mark_in_view}
+use Rattle.sight_workers.specs.Steps.{FollowsMachine, IsSeatAt, Shows, board_pair}
 use Rattle.sight_workers.proofs.Keeps.{word_small}
 use Rattle.sight_workers.proofs.Lists.{claim_below}
 use Rattle.sight_workers.proofs.Machines.{IsChanged, active, same_numbers, step_shown}
@@ -44,37 +44,37 @@ module _ (t : Task) (s : State (Unit {0}) View) (c : machine.State) (r : Holds t
   first : (y : ℕ) → get_or (set s.words 0 y) 0 0 ≡ y
   first y = let a = r.wide in get_or-set_same s.words 0 y 0 (omega arith)
 
-  marked_on : (ws : List ℕ) → ((k : ℕ) → get_or ws (k + 1) 0 ≡ get_or s.words (k + 1) 0) → (p : ℕ × ℕ) → Contains c.marked (pair_of p) ↔ (IsPair t.plan.sectors p × IsSet t.plan.sectors ws p)
+  marked_on : (ws : List ℕ) → ((k : ℕ) → get_or ws (k + 1) 0 ≡ get_or s.words (k + 1) 0) → (p : ℕ × ℕ) → Contains c.marked (board_pair p) ↔ (IsBoardPair t.plan.sectors p × IsBitSet t.plan.sectors ws p)
   marked_on ws e p = (
-    (λ a. let d = (h.marked p).0 a in (d.0, bit (e (word_of t.plan.sectors p)) ∙ d.1)),
-    (λ a. (h.marked p).1 (a.0, bit (sym (e (word_of t.plan.sectors p))) ∙ a.1)),
+    (λ a. let d = (h.marked p).0 a in (d.0, bit (e (bit_word_of t.plan.sectors p)) ∙ d.1)),
+    (λ a. (h.marked p).1 (a.0, bit (sym (e (bit_word_of t.plan.sectors p))) ∙ a.1)),
   )
     where
-      bit : {a b : ℕ} → a ≡ b → bit_at a (bit_of t.plan.sectors p) ≡ bit_at b (bit_of t.plan.sectors p)
-      bit f = ap (λ (y : ℕ). bit_at y (bit_of t.plan.sectors p)) f
+      bit : {a b : ℕ} → a ≡ b → bit_at a (bit_in_word t.plan.sectors p) ≡ bit_at b (bit_in_word t.plan.sectors p)
+      bit f = ap (λ (y : ℕ). bit_at y (bit_in_word t.plan.sectors p)) f
 
   others : (y k : ℕ) → get_or (set s.words 0 y) (k + 1) 0 ≡ get_or s.words (k + 1) 0
   others y k = get_or-set_other s.words 0 (k + 1) y 0 (λ e. omega arith)
 
   module _ (seat worker : ℕ) (v : View) (i : IsSeatAt t s c seat worker v) where
-    number : number_of v.role ≡ worker
-    number = ap number_of i.1
+    number : worker_number v.role ≡ worker
+    number = ap worker_number i.1
 
     abbrev pub drawn : List (ℕ × ℕ)
-    drawn = (number_of v.role, claim_word) ∷ []
+    drawn = (worker_number v.role, claim_word) ∷ []
 
-    drawn_is : (d : ℕ × ℕ) → Contains drawn d → (number_of v.role, claim_word) ≡ d
-    drawn_is d m = contains_one d (number_of v.role, claim_word) m
+    drawn_is : (d : ℕ × ℕ) → Contains drawn d → (worker_number v.role, claim_word) ≡ d
+    drawn_is d m = contains_one d (worker_number v.role, claim_word) m
 
     drawn_own : (d : ℕ × ℕ) → Contains drawn d → d.0 ≡ worker
     drawn_own d m = ap (λ (q : ℕ × ℕ). q.0) (sym (drawn_is d m)) ∙ number
 
-    pub gives : claim_word < t.plan.sectors → Follows t s c (Claim worker) (Source claim_word) (stepped s 0 ((claim_word + 1) % 2 ^ 64) seat [] (with_claim v claim_word) keeps)
+    pub gives : claim_word < t.plan.sectors → FollowsMachine t s c (Claim worker) (Source claim_word) (stepped s 0 ((claim_word + 1) % 2 ^ 64) seat [] (with_claim_in_view v claim_word) keeps)
     gives low = (
       active t s c r h seat worker v i.0 i.1,
       ap (λ (b : Bool). cond {A = Reply} b (Source c.next) NoSource) below ∙ ap Source next_is,
-      subst (λ (y : ℕ). Shows t (stepped s 0 y seat [] (with_claim v claim_word) keeps) (machine.claimed c worker)) (sym fit)
-          (subst (λ (b : Bool). Shows t (stepped s 0 (claim_word + 1) seat [] (with_claim v claim_word) keeps) (cond {A = machine.State} b (record c { next = c.next + 1; workers = machine.change (machine.with_claim c.next) worker c.workers }) c)) (sym below) shown),
+      subst (λ (y : ℕ). Shows t (stepped s 0 y seat [] (with_claim_in_view v claim_word) keeps) (machine.claimed c worker)) (sym fit)
+          (subst (λ (b : Bool). Shows t (stepped s 0 (claim_word + 1) seat [] (with_claim_in_view v claim_word) keeps) (cond {A = machine.State} b (record c { next = c.next + 1; workers = machine.change (machine.with_claim c.next) worker c.workers }) c)) (sym below) shown),
     )
       where
         next_is : c.next ≡ claim_word
@@ -86,11 +86,11 @@ module _ (t : Task) (s : State (Unit {0}) View) (c : machine.State) (r : Holds t
         fit : (claim_word + 1) % 2 ^ 64 ≡ claim_word + 1
         fit = let a = word_small t s r in omega arith
 
-        changed : (j : ℕ) (w : machine.Worker) → j ≡ worker → IsChanged t s c r h seat worker v (with_claim v claim_word) i.0 i.1 refl drawn refl drawn_own j w (machine.with_claim c.next w)
+        changed : (j : ℕ) (w : machine.Worker) → j ≡ worker → IsChanged t s c r h seat worker v (with_claim_in_view v claim_word) i.0 i.1 refl drawn refl drawn_own j w (machine.with_claim c.next w)
         changed j w e = record {
           claims = λ y. (
             (λ m. ⊎_elim (λ (a : Contains w.claims y). inl a)
-                (λ (b : Contains (c.next ∷ []) y). let f : claim_word ≡ y = sym next_is ∙ contains_one y c.next b in inr (subst (λ (z : ℕ). z < t.plan.sectors) f low, subst (Contains drawn) (λ k. ((number ∙ sym e) k, f k)) (contains_here (number_of v.role, claim_word) [])))
+                (λ (b : Contains (c.next ∷ []) y). let f : claim_word ≡ y = sym next_is ∙ contains_one y c.next b in inr (subst (λ (z : ℕ). z < t.plan.sectors) f low, subst (Contains drawn) (λ k. ((number ∙ sym e) k, f k)) (contains_here (worker_number v.role, claim_word) [])))
                 (contains_append y w.claims (c.next ∷ []) m)),
             (λ m. ⊎_elim (λ (a : Contains w.claims y). contains_left y w.claims (c.next ∷ []) a)
                 (λ (b : (y < t.plan.sectors) × Contains drawn (j, y)).
@@ -101,33 +101,33 @@ module _ (t : Task) (s : State (Unit {0}) View) (c : machine.State) (r : Holds t
           ended = refl;
         }
 
-        shown : Shows t (stepped s 0 (claim_word + 1) seat [] (with_claim v claim_word) keeps) (record c { next = c.next + 1; workers = machine.change (machine.with_claim c.next) worker c.workers })
-        shown = step_shown t s c r h seat worker v (with_claim v claim_word) i.0 i.1 refl drawn refl drawn_own (set s.words 0 (claim_word + 1)) s.homes (c.next + 1) c.marked (machine.change (machine.with_claim c.next) worker c.workers)
+        shown : Shows t (stepped s 0 (claim_word + 1) seat [] (with_claim_in_view v claim_word) keeps) (record c { next = c.next + 1; workers = machine.change (machine.with_claim c.next) worker c.workers })
+        shown = step_shown t s c r h seat worker v (with_claim_in_view v claim_word) i.0 i.1 refl drawn refl drawn_own (set s.words 0 (claim_word + 1)) s.homes (c.next + 1) c.marked (machine.change (machine.with_claim c.next) worker c.workers)
             (let a = next_is in let b = min_low (claim_word + 1) t.plan.sectors (omega arith) in let d : min (get_or (set s.words 0 (claim_word + 1)) 0 0) t.plan.sectors ≡ min (claim_word + 1) t.plan.sectors = ap (λ (y : ℕ). min y t.plan.sectors) (first (claim_word + 1)) in omega arith)
             (marked_on (set s.words 0 (claim_word + 1)) (others (claim_word + 1)))
             (length-change (machine.with_claim c.next) worker c.workers)
             (λ j w n e. change_other (machine.with_claim c.next) worker j c.workers w n e)
-            (λ j w' e. let b = changed_at (machine.with_claim c.next) worker c.workers j w' e in (b.0, b.1, (λ q. subst (IsChanged t s c r h seat worker v (with_claim v claim_word) i.0 i.1 refl drawn refl drawn_own j b.0) (sym (b.2 q)) (changed j b.0 q)), b.3))
+            (λ j w' e. let b = changed_at (machine.with_claim c.next) worker c.workers j w' e in (b.0, b.1, (λ q. subst (IsChanged t s c r h seat worker v (with_claim_in_view v claim_word) i.0 i.1 refl drawn refl drawn_own j b.0) (sym (b.2 q)) (changed j b.0 q)), b.3))
 
     -- no source is left
     none_left : t.plan.sectors ≤ claim_word → ltb c.next c.sectors ≡ false
     none_left high = let a : c.next ≡ t.plan.sectors = h.next ∙ min_high claim_word t.plan.sectors high in let b = h.sectors in tells_not_below c.next c.sectors (omega arith)
 
-    refused : (s' : State (Unit {0}) View) → t.plan.sectors ≤ claim_word → Shows t s' c → Follows t s c (Claim worker) NoSource s'
+    refused : (s' : State (Unit {0}) View) → t.plan.sectors ≤ claim_word → Shows t s' c → FollowsMachine t s c (Claim worker) NoSource s'
     refused s' high shown = (
       active t s c r h seat worker v i.0 i.1,
       ap (λ (b : Bool). cond {A = Reply} b (Source c.next) NoSource) (none_left high),
       subst (λ (b : Bool). Shows t s' (cond {A = machine.State} b (record c { next = c.next + 1; workers = machine.change (machine.with_claim c.next) worker c.workers }) c)) (sym (none_left high)) shown,
     )
 
-    pub gives_none : t.plan.sectors ≤ claim_word → Follows t s c (Claim worker) NoSource (stepped s 0 ((claim_word + 1) % 2 ^ 64) seat [] (with_claim v claim_word) keeps)
-    gives_none high = refused (stepped s 0 ((claim_word + 1) % 2 ^ 64) seat [] (with_claim v claim_word) keeps) high
-        (subst (λ (y : ℕ). Shows t (stepped s 0 y seat [] (with_claim v claim_word) keeps) c) (sym fit) shown)
+    pub gives_none : t.plan.sectors ≤ claim_word → FollowsMachine t s c (Claim worker) NoSource (stepped s 0 ((claim_word + 1) % 2 ^ 64) seat [] (with_claim_in_view v claim_word) keeps)
+    gives_none high = refused (stepped s 0 ((claim_word + 1) % 2 ^ 64) seat [] (with_claim_in_view v claim_word) keeps) high
+        (subst (λ (y : ℕ). Shows t (stepped s 0 y seat [] (with_claim_in_view v claim_word) keeps) c) (sym fit) shown)
       where
         fit : (claim_word + 1) % 2 ^ 64 ≡ claim_word + 1
         fit = let a = word_small t s r in omega arith
 
-        same : (j : ℕ) (w : machine.Worker) → IsChanged t s c r h seat worker v (with_claim v claim_word) i.0 i.1 refl drawn refl drawn_own j w w
+        same : (j : ℕ) (w : machine.Worker) → IsChanged t s c r h seat worker v (with_claim_in_view v claim_word) i.0 i.1 refl drawn refl drawn_own j w w
         same j w = record {
           claims = λ y. (
             (λ m. inl m),
@@ -137,8 +137,8 @@ module _ (t : Task) (s : State (Unit {0}) View) (c : machine.State) (r : Holds t
           ended = refl;
         }
 
-        shown : Shows t (stepped s 0 (claim_word + 1) seat [] (with_claim v claim_word) keeps) c
-        shown = step_shown t s c r h seat worker v (with_claim v claim_word) i.0 i.1 refl drawn refl drawn_own (set s.words 0 (claim_word + 1)) s.homes c.next c.marked c.workers
+        shown : Shows t (stepped s 0 (claim_word + 1) seat [] (with_claim_in_view v claim_word) keeps) c
+        shown = step_shown t s c r h seat worker v (with_claim_in_view v claim_word) i.0 i.1 refl drawn refl drawn_own (set s.words 0 (claim_word + 1)) s.homes c.next c.marked c.workers
             (h.next ∙ min_high claim_word t.plan.sectors high ∙ sym (min_high (claim_word + 1) t.plan.sectors (omega arith)) ∙ ap (λ (y : ℕ). min y t.plan.sectors) (sym (first (claim_word + 1))))
             (marked_on (set s.words 0 (claim_word + 1)) (others (claim_word + 1)))
             refl
@@ -156,11 +156,11 @@ module _ (t : Task) (s : State (Unit {0}) View) (c : machine.State) (r : Holds t
         unchanged : (j : ℕ) (w : machine.Worker) → IsChanged t s c r h seat worker v u i.0 i.1 same [] (claims ∙ sym (append-nil v.claims)) no_claim j w w
         unchanged j w = record {
           claims = λ y. ((λ m. inl m), (λ m. ⊎_elim (λ (a : Contains w.claims y). a) (λ (b : (y < t.plan.sectors) × Contains {X = ℕ × ℕ} [] (j, y)). absurd (contains_none (j, y) b.1)) m));
-          marks = λ m. m ∙ ap (map pair_of) (sym marks);
+          marks = λ m. m ∙ ap (map board_pair) (sym marks);
           ended = refl;
         }
 
-    pub gives_none_again : has_over v ≡ true → Follows t s c (Claim worker) NoSource (stepped s 0 ((claim_word + 0) % 2 ^ 64) seat [] v keeps)
+    pub gives_none_again : has_over v ≡ true → FollowsMachine t s c (Claim worker) NoSource (stepped s 0 ((claim_word + 0) % 2 ^ 64) seat [] v keeps)
     gives_none_again over = refused (stepped s 0 ((claim_word + 0) % 2 ^ 64) seat [] v keeps) high
         (subst (λ (y : ℕ). Shows t (stepped s 0 y seat [] v keeps) c) (sym fit) (quiet 0 v refl refl refl))
       where
@@ -185,7 +185,7 @@ module _ (t : Task) (s : State (Unit {0}) View) (c : machine.State) (r : Holds t
         is_set : (j : ℕ) → bit_at (machine.bits_in t.plan.sectors k c.marked) j ≡ 1 → bit_at (get_or s.words (k + 1) 0) j ≡ 1
         is_set j e =
             let p = looks_are_true (record c { sectors = t.plan.sectors }) k j e in
-            let m : IsSet t.plan.sectors s.words (p.0.a, p.0.b) = ((h.marked (p.0.a, p.0.b)).0 p.1).1 in
+            let m : IsBitSet t.plan.sectors s.words (p.0.a, p.0.b) = ((h.marked (p.0.a, p.0.b)).0 p.1).1 in
             subst (λ (z : ℕ × ℕ). bit_at (get_or s.words (z.0 + 1) 0) z.1 ≡ 1) (λ l. (p.2 l, p.3 l)) m
 
         is_given : (j : ℕ) → bit_at (get_or s.words (k + 1) 0) j ≡ 1 → bit_at (machine.bits_in t.plan.sectors k c.marked) j ≡ 1
@@ -196,29 +196,29 @@ module _ (t : Task) (s : State (Unit {0}) View) (c : machine.State) (r : Holds t
             at (no low) =
                 let m = r.bits k j inside (omega arith) e in
                 let p = (h.marked m.0).1 (m.1, set_at t.plan.sectors s.words k j m.0 m.2 m.3 e) in
-                subst (λ (z : ℕ × ℕ). bit_at (machine.bits_in t.plan.sectors z.0 c.marked) z.1 ≡ 1) (λ l. (m.2 l, m.3 l)) (shown_has t.plan.sectors c.marked (pair_of m.0) p)
+                subst (λ (z : ℕ × ℕ). bit_at (machine.bits_in t.plan.sectors z.0 c.marked) z.1 ≡ 1) (λ l. (m.2 l, m.3 l)) (shown_has t.plan.sectors c.marked (board_pair m.0) p)
 
     pub looks : (k : ℕ) → k < word_count t.plan.sectors → get_or s.words (k + 1) 0 < 2 ^ 64
-        → Follows t s c (Look worker k) (Bits (get_or s.words (k + 1) 0)) (stepped s (k + 1) (get_or s.words (k + 1) 0) seat [] (with_look v k (get_or s.words (k + 1) 0)) keeps)
+        → FollowsMachine t s c (Look worker k) (Bits (get_or s.words (k + 1) 0)) (stepped s (k + 1) (get_or s.words (k + 1) 0) seat [] (with_look v k (get_or s.words (k + 1) 0)) keeps)
     looks k inside small = (
       active t s c r h seat worker v i.0 i.1,
       ap (λ (m : ℕ). Bits (machine.bits_in m k c.marked)) h.sectors ∙ ap Bits (same_bits k inside small),
       quiet (k + 1) (with_look v k (get_or s.words (k + 1) 0)) refl refl refl,
     )
 
-    pub marks : (p : ℕ × ℕ) → IsPair t.plan.sectors p → IsFindable t p
-        → Follows t s c (Mark worker p.0 p.1) Done
-        (stepped s (word_of t.plan.sectors p + 1) (bit_or (get_or s.words (word_of t.plan.sectors p + 1) 0) (2 ^ bit_of t.plan.sectors p)) seat [] (with_mark v p) keeps)
+    pub marks : (p : ℕ × ℕ) → IsBoardPair t.plan.sectors p → IsFindable t p
+        → FollowsMachine t s c (Mark worker p.0 p.1) Done
+        (stepped s (bit_word_of t.plan.sectors p + 1) (bit_or (get_or s.words (bit_word_of t.plan.sectors p + 1) 0) (2 ^ bit_in_word t.plan.sectors p)) seat [] (with_mark_in_view v p) keeps)
     marks p pair may = ((active t s c r h seat worker v i.0 i.1, (h.findable p).1 (pair, may)), refl, shown)
       where
         k : ℕ
-        k = word_of t.plan.sectors p + 1
+        k = bit_word_of t.plan.sectors p + 1
 
         old : ℕ
         old = get_or s.words k 0
 
         new : ℕ
-        new = bit_or old (2 ^ bit_of t.plan.sectors p)
+        new = bit_or old (2 ^ bit_in_word t.plan.sectors p)
 
         ws : List ℕ
         ws = set s.words k new
@@ -229,46 +229,46 @@ module _ (t : Task) (s : State (Unit {0}) View) (c : machine.State) (r : Holds t
         other_word : (j : ℕ) → j ≢ k → get_or ws j 0 ≡ get_or s.words j 0
         other_word j n = get_or-set_other s.words k j new 0 n
 
-        bit_now : (j : ℕ) → bit_at (get_or ws k 0) j ≡ max (bit_at old j) (bit_at (2 ^ bit_of t.plan.sectors p) j)
-        bit_now j = ap (λ (y : ℕ). bit_at y j) new_word ∙ bit_at_or old (2 ^ bit_of t.plan.sectors p) j
+        bit_now : (j : ℕ) → bit_at (get_or ws k 0) j ≡ max (bit_at old j) (bit_at (2 ^ bit_in_word t.plan.sectors p) j)
+        bit_now j = ap (λ (y : ℕ). bit_at y j) new_word ∙ bit_at_or old (2 ^ bit_in_word t.plan.sectors p) j
 
-        set_now : IsSet t.plan.sectors ws p
-        set_now = bit_now (bit_of t.plan.sectors p) ∙ bit_of_right _ _ (bit_at-lt old (bit_of t.plan.sectors p)) (bit_at-lt (2 ^ bit_of t.plan.sectors p) (bit_of t.plan.sectors p)) (bit_at-pow_same (bit_of t.plan.sectors p))
+        set_now : IsBitSet t.plan.sectors ws p
+        set_now = bit_now (bit_in_word t.plan.sectors p) ∙ bit_of_right _ _ (bit_at-lt old (bit_in_word t.plan.sectors p)) (bit_at-lt (2 ^ bit_in_word t.plan.sectors p) (bit_in_word t.plan.sectors p)) (bit_at-pow_same (bit_in_word t.plan.sectors p))
 
-        still : (q : ℕ × ℕ) → IsSet t.plan.sectors s.words q → IsSet t.plan.sectors ws q
-        still q m = dite (ℕ_discrete (word_of t.plan.sectors q + 1) k)
-            (λ e. let f : bit_at old (bit_of t.plan.sectors q) ≡ 1 = subst (λ (y : ℕ). bit_at (get_or s.words y 0) (bit_of t.plan.sectors q) ≡ 1) e m in
-            subst (λ (y : ℕ). bit_at (get_or ws y 0) (bit_of t.plan.sectors q) ≡ 1) (sym e) (bit_now (bit_of t.plan.sectors q) ∙ bit_of_left _ _ (bit_at-lt old (bit_of t.plan.sectors q)) (bit_at-lt (2 ^ bit_of t.plan.sectors p) (bit_of t.plan.sectors q)) f))
-            (λ e. ap (λ (y : ℕ). bit_at y (bit_of t.plan.sectors q)) (other_word (word_of t.plan.sectors q + 1) e) ∙ m)
+        still : (q : ℕ × ℕ) → IsBitSet t.plan.sectors s.words q → IsBitSet t.plan.sectors ws q
+        still q m = dite (ℕ_discrete (bit_word_of t.plan.sectors q + 1) k)
+            (λ e. let f : bit_at old (bit_in_word t.plan.sectors q) ≡ 1 = subst (λ (y : ℕ). bit_at (get_or s.words y 0) (bit_in_word t.plan.sectors q) ≡ 1) e m in
+            subst (λ (y : ℕ). bit_at (get_or ws y 0) (bit_in_word t.plan.sectors q) ≡ 1) (sym e) (bit_now (bit_in_word t.plan.sectors q) ∙ bit_of_left _ _ (bit_at-lt old (bit_in_word t.plan.sectors q)) (bit_at-lt (2 ^ bit_in_word t.plan.sectors p) (bit_in_word t.plan.sectors q)) f))
+            (λ e. ap (λ (y : ℕ). bit_at y (bit_in_word t.plan.sectors q)) (other_word (bit_word_of t.plan.sectors q + 1) e) ∙ m)
 
-        before : (q : ℕ × ℕ) → IsPair t.plan.sectors q → IsSet t.plan.sectors ws q → (p ≡ q) ⊎ IsSet t.plan.sectors s.words q
-        before q fit m = dite (ℕ_discrete (word_of t.plan.sectors q + 1) k)
-            (λ e. dite (ℕ_discrete (bit_of t.plan.sectors q) (bit_of t.plan.sectors p))
+        before : (q : ℕ × ℕ) → IsBoardPair t.plan.sectors q → IsBitSet t.plan.sectors ws q → (p ≡ q) ⊎ IsBitSet t.plan.sectors s.words q
+        before q fit m = dite (ℕ_discrete (bit_word_of t.plan.sectors q + 1) k)
+            (λ e. dite (ℕ_discrete (bit_in_word t.plan.sectors q) (bit_in_word t.plan.sectors p))
             (λ f. inl (same_pair t.plan.sectors p q pair fit (omega arith) (sym f)))
-            (λ n. let g = bit_now (bit_of t.plan.sectors q) ∙ bit_of_none _ _ (bit_at-pow_other (bit_of t.plan.sectors p) (bit_of t.plan.sectors q) n) in
-            inr (subst (λ (y : ℕ). bit_at (get_or s.words y 0) (bit_of t.plan.sectors q) ≡ 1) (sym e) (sym g ∙ subst (λ (y : ℕ). bit_at (get_or ws y 0) (bit_of t.plan.sectors q) ≡ 1) e m))))
-            (λ n. inr (ap (λ (y : ℕ). bit_at y (bit_of t.plan.sectors q)) (sym (other_word (word_of t.plan.sectors q + 1) n)) ∙ m))
+            (λ n. let g = bit_now (bit_in_word t.plan.sectors q) ∙ bit_of_none _ _ (bit_at-pow_other (bit_in_word t.plan.sectors p) (bit_in_word t.plan.sectors q) n) in
+            inr (subst (λ (y : ℕ). bit_at (get_or s.words y 0) (bit_in_word t.plan.sectors q) ≡ 1) (sym e) (sym g ∙ subst (λ (y : ℕ). bit_at (get_or ws y 0) (bit_in_word t.plan.sectors q) ≡ 1) e m))))
+            (λ n. inr (ap (λ (y : ℕ). bit_at y (bit_in_word t.plan.sectors q)) (sym (other_word (bit_word_of t.plan.sectors q + 1) n)) ∙ m))
 
-        marked : (q : ℕ × ℕ) → Contains (c.marked ++ pair_of p ∷ []) (pair_of q) ↔ (IsPair t.plan.sectors q × IsSet t.plan.sectors ws q)
+        marked : (q : ℕ × ℕ) → Contains (c.marked ++ board_pair p ∷ []) (board_pair q) ↔ (IsBoardPair t.plan.sectors q × IsBitSet t.plan.sectors ws q)
         marked q = (
-          (λ m. ⊎_elim (λ (a : Contains c.marked (pair_of q)). let d = (h.marked q).0 a in (d.0, still q d.1))
-              (λ (b : Contains (pair_of p ∷ []) (pair_of q)). subst (λ (z : ℕ × ℕ). IsPair t.plan.sectors z × IsSet t.plan.sectors ws z) (same_numbers p q (contains_one (pair_of q) (pair_of p) b)) (pair, set_now))
-              (contains_append (pair_of q) c.marked (pair_of p ∷ []) m)),
-          (λ m. ⊎_elim (λ (e : p ≡ q). contains_right (pair_of q) c.marked (pair_of p ∷ []) (subst (λ (z : ℕ × ℕ). Contains (pair_of p ∷ []) (pair_of z)) e (contains_here (pair_of p) [])))
-              (λ (a : IsSet t.plan.sectors s.words q). contains_left (pair_of q) c.marked (pair_of p ∷ []) ((h.marked q).1 (m.0, a))) (before q m.0 m.1)),
+          (λ m. ⊎_elim (λ (a : Contains c.marked (board_pair q)). let d = (h.marked q).0 a in (d.0, still q d.1))
+              (λ (b : Contains (board_pair p ∷ []) (board_pair q)). subst (λ (z : ℕ × ℕ). IsBoardPair t.plan.sectors z × IsBitSet t.plan.sectors ws z) (same_numbers p q (contains_one (board_pair q) (board_pair p) b)) (pair, set_now))
+              (contains_append (board_pair q) c.marked (board_pair p ∷ []) m)),
+          (λ m. ⊎_elim (λ (e : p ≡ q). contains_right (board_pair q) c.marked (board_pair p ∷ []) (subst (λ (z : ℕ × ℕ). Contains (board_pair p ∷ []) (board_pair z)) e (contains_here (board_pair p) [])))
+              (λ (a : IsBitSet t.plan.sectors s.words q). contains_left (board_pair q) c.marked (board_pair p ∷ []) ((h.marked q).1 (m.0, a))) (before q m.0 m.1)),
         )
 
-        changed : (j : ℕ) (w : machine.Worker) → IsChanged t s c r h seat worker v (with_mark v p) i.0 i.1 refl [] (sym (append-nil v.claims)) no_claim j w (machine.with_mark (pair_of p) w)
+        changed : (j : ℕ) (w : machine.Worker) → IsChanged t s c r h seat worker v (with_mark_in_view v p) i.0 i.1 refl [] (sym (append-nil v.claims)) no_claim j w (machine.with_mark (board_pair p) w)
         changed j w = record {
           claims = λ y. ((λ m. inl m), (λ m. ⊎_elim (λ (a : Contains w.claims y). a) (λ (b : (y < t.plan.sectors) × Contains {X = ℕ × ℕ} [] (j, y)). absurd (contains_none (j, y) b.1)) m));
-          marks = λ m. ap (λ (ps : List Pair). ps ++ pair_of p ∷ []) m ∙ sym (map-append pair_of v.marks (p ∷ []));
+          marks = λ m. ap (λ (ps : List Pair). ps ++ board_pair p ∷ []) m ∙ sym (map-append board_pair v.marks (p ∷ []));
           ended = refl;
         }
 
-        shown : Shows t (stepped s k new seat [] (with_mark v p) keeps) (record c { marked = c.marked ++ pair_of p ∷ []; workers = machine.change (machine.with_mark (pair_of p)) worker c.workers })
-        shown = step_shown t s c r h seat worker v (with_mark v p) i.0 i.1 refl [] (sym (append-nil v.claims)) no_claim ws s.homes c.next (c.marked ++ pair_of p ∷ []) (machine.change (machine.with_mark (pair_of p)) worker c.workers)
+        shown : Shows t (stepped s k new seat [] (with_mark_in_view v p) keeps) (record c { marked = c.marked ++ board_pair p ∷ []; workers = machine.change (machine.with_mark (board_pair p)) worker c.workers })
+        shown = step_shown t s c r h seat worker v (with_mark_in_view v p) i.0 i.1 refl [] (sym (append-nil v.claims)) no_claim ws s.homes c.next (c.marked ++ board_pair p ∷ []) (machine.change (machine.with_mark (board_pair p)) worker c.workers)
             (h.next ∙ ap (λ (y : ℕ). min y t.plan.sectors) (sym (other_word 0 (λ e. omega arith))))
             marked
-            (length-change (machine.with_mark (pair_of p)) worker c.workers)
-            (λ j w n e. change_other (machine.with_mark (pair_of p)) worker j c.workers w n e)
-            (λ j w' e. let b = changed_at (machine.with_mark (pair_of p)) worker c.workers j w' e in (b.0, b.1, (λ q. subst (IsChanged t s c r h seat worker v (with_mark v p) i.0 i.1 refl [] (sym (append-nil v.claims)) no_claim j b.0) (sym (b.2 q)) (changed j b.0)), b.3))
+            (length-change (machine.with_mark (board_pair p)) worker c.workers)
+            (λ j w n e. change_other (machine.with_mark (board_pair p)) worker j c.workers w n e)
+            (λ j w' e. let b = changed_at (machine.with_mark (board_pair p)) worker c.workers j w' e in (b.0, b.1, (λ q. subst (IsChanged t s c r h seat worker v (with_mark_in_view v p) i.0 i.1 refl [] (sym (append-nil v.claims)) no_claim j b.0) (sym (b.2 q)) (changed j b.0)), b.3))

@@ -14,26 +14,26 @@ use Rattle.sight_workers.specs.declared.view.Task.{Task}
 use Rattle.sight_workers.specs.declared.view.View.{View}
 use Rattle.sight_workers.specs.declared.view.SeatRole.{SeatRole}
 use Rattle.sight_workers.specs.declared.view.SeatRole.TheVariants.{Keeper, Worker}
-use Rattle.sight_workers.specs.Board.{Holds, IsPair, IsSet, number_of}
-use Rattle.sight_workers.specs.Plainly.{IsPlain}
-use Rattle.sight_workers.specs.Steps.{pair_of, IsClaimedBy, IsKept, ShowsWorker, Shows}
+use Rattle.sight_workers.specs.Board.{Holds, IsBoardPair, IsBitSet, worker_number}
+use Rattle.sight_workers.specs.Plainly.{IsPlainState}
+use Rattle.sight_workers.specs.Steps.{board_pair, IsClaimedBy, IsKeeperView, ShowsWorker, Shows}
 use Rattle.sight_workers.proofs.Lists.{at_length, some_at}
 use Rattle.sight_workers.proofs.Plainly.{plainly}
 use Rattle.math_base.proofs.Lists.{contains_append, contains_right, contains_left, contains_cons, contains_none, contains_there, contains_here}
 use Rattle.math_base.proofs.Bools.{by_value}
 
-pub contains_map : (xs : List (ℕ × ℕ)) (p : ℕ × ℕ) → Contains xs p → Contains (map pair_of xs) (pair_of p)
+pub contains_map : (xs : List (ℕ × ℕ)) (p : ℕ × ℕ) → Contains xs p → Contains (map board_pair xs) (board_pair p)
 contains_map [] p h = absurd (contains_none p h)
-contains_map (x ∷ xs) p h = ⊎_elim (λ (e : x ≡ p). subst (λ (q : ℕ × ℕ). Contains (pair_of x ∷ map pair_of xs) (pair_of q)) e (contains_here (pair_of x) (map pair_of xs)))
-    (λ (i : Contains xs p). contains_there (pair_of p) (pair_of x) (map pair_of xs) (contains_map xs p i)) (contains_cons p x xs h)
+contains_map (x ∷ xs) p h = ⊎_elim (λ (e : x ≡ p). subst (λ (q : ℕ × ℕ). Contains (board_pair x ∷ map board_pair xs) (board_pair q)) e (contains_here (board_pair x) (map board_pair xs)))
+    (λ (i : Contains xs p). contains_there (board_pair p) (board_pair x) (map board_pair xs) (contains_map xs p i)) (contains_cons p x xs h)
 
-pub same_numbers : (p q : ℕ × ℕ) → pair_of p ≡ pair_of q → p ≡ q
+pub same_numbers : (p q : ℕ × ℕ) → board_pair p ≡ board_pair q → p ≡ q
 same_numbers p q e = ap (λ (x : Pair). let z : ℕ × ℕ = (x.a, x.b) in z) e
 
-pub contains_unmap : (xs : List (ℕ × ℕ)) (p : ℕ × ℕ) → Contains (map pair_of xs) (pair_of p) → Contains xs p
-contains_unmap [] p h = absurd (contains_none (pair_of p) h)
-contains_unmap (x ∷ xs) p h = ⊎_elim (λ (e : pair_of x ≡ pair_of p). subst (Contains (x ∷ xs)) (same_numbers x p e) (contains_here x xs))
-    (λ (i : Contains (map pair_of xs) (pair_of p)). contains_there p x xs (contains_unmap xs p i)) (contains_cons (pair_of p) (pair_of x) (map pair_of xs) h)
+pub contains_unmap : (xs : List (ℕ × ℕ)) (p : ℕ × ℕ) → Contains (map board_pair xs) (board_pair p) → Contains xs p
+contains_unmap [] p h = absurd (contains_none (board_pair p) h)
+contains_unmap (x ∷ xs) p h = ⊎_elim (λ (e : board_pair x ≡ board_pair p). subst (Contains (x ∷ xs)) (same_numbers x p e) (contains_here x xs))
+    (λ (i : Contains (map board_pair xs) (board_pair p)). contains_there p x xs (contains_unmap xs p i)) (contains_cons (board_pair p) (board_pair x) (map board_pair xs) h)
 
 there : {X : Type 0} (xs : List X) (k : ℕ) → k < length xs → (x : X) × (get_elem? xs k ≡ some x)
 there [] k l = absurd (omega arith)
@@ -44,26 +44,26 @@ pub clash : (x : View) (w : ℕ) → x.role ≡ Keeper → x.role ≡ Worker w �
 clash x w e f = let h : Keeper ≡ Worker w = sym e ∙ f in cc
 
 pub same_worker : (j k : ℕ) (q : SeatRole) → q ≡ Worker j → q ≡ Worker k → j ≡ k
-same_worker j k q e f = sym (ap number_of e) ∙ ap number_of f
+same_worker j k q e f = sym (ap worker_number e) ∙ ap worker_number f
 
 module _ (t : Task) (s : State (Unit {0}) View) (c : machine.State) (r : Holds t s) (h : Shows t s c) where
-  abbrev pub plain : IsPlain t s
+  abbrev pub plain : IsPlainState t s
   plain = plainly t s r
 
-  pub kept_is : (x y : View) → IsKept s.views x → IsKept s.views y → x ≡ y
+  pub kept_is : (x y : View) → IsKeeperView s.views x → IsKeeperView s.views y → x ≡ y
   kept_is x y a b = some_at s.views plain.keeper x y (at_keeper x a) (at_keeper y b)
     where
-      at_keeper : (x : View) → IsKept s.views x → get_elem? s.views plain.keeper ≡ some x
+      at_keeper : (x : View) → IsKeeperView s.views x → get_elem? s.views plain.keeper ≡ some x
       at_keeper x a = subst (λ (j : ℕ). get_elem? s.views j ≡ some x) (plain.one_keeper a.0 x a.1 a.2) a.1
 
-  pub kept : IsKept s.views plain.kept
+  pub kept : IsKeeperView s.views plain.kept
   kept = (plain.keeper, plain.keeper_at, plain.keeper_role)
 
   -- a worker whose seat isn't spent was made, and not joined
-  pub made_before : (seat worker : ℕ) (v y : View) → get_elem? s.views seat ≡ some v → v.role ≡ Worker worker → IsKept s.views y → worker < y.made
+  pub made_before : (seat worker : ℕ) (v y : View) → get_elem? s.views seat ≡ some v → v.role ≡ Worker worker → IsKeeperView s.views y → worker < y.made
   made_before seat worker v y at is k = subst (λ (z : View). worker < z.made) (kept_is plain.kept y kept k) (plain.below seat v worker at is)
 
-  pub not_joined : (seat worker : ℕ) (v y : View) → get_elem? s.views seat ≡ some v → v.role ≡ Worker worker → IsKept s.views y → Contains y.joined worker → ⊥
+  pub not_joined : (seat worker : ℕ) (v y : View) → get_elem? s.views seat ≡ some v → v.role ≡ Worker worker → IsKeeperView s.views y → Contains y.joined worker → ⊥
   not_joined seat worker v y at is k m = (plain.joined worker (subst (λ (z : View). Contains z.joined worker) (kept_is y plain.kept k kept) m)).1 seat v at is
 
   pub active : (seat worker : ℕ) (v : View) → get_elem? s.views seat ≡ some v → v.role ≡ Worker worker → machine.IsActive c worker
@@ -75,7 +75,7 @@ module _ (t : Task) (s : State (Unit {0}) View) (c : machine.State) (r : Holds t
   -- a step of the seat, after which its view is u and has some claims more
   module _ (seat worker : ℕ) (v u : View) (at : get_elem? s.views seat ≡ some v) (is : v.role ≡ Worker worker) (same : u.role ≡ v.role)
       (more : List (ℕ × ℕ)) (grown : u.claims ≡ v.claims ++ more) (own : (d : ℕ × ℕ) → Contains more d → d.0 ≡ worker) where
-    kept_back : (x : View) → IsKept (set s.views seat u) x → IsKept s.views x
+    kept_back : (x : View) → IsKeeperView (set s.views seat u) x → IsKeeperView s.views x
     kept_back x k = ⊎_elim (λ (q : (k.0 ≡ seat) × (u ≡ x)). absurd (clash x worker k.2 (ap (λ (y : View). y.role) (sym q.1) ∙ (same ∙ is))))
         (λ (q : (k.0 ≢ seat) × (get_elem? s.views k.0 ≡ some x)). (k.0, q.1, k.2)) (at_set s.views seat k.0 u x k.1)
 
@@ -98,7 +98,7 @@ module _ (t : Task) (s : State (Unit {0}) View) (c : machine.State) (r : Holds t
 
     worker_shown : (j : ℕ) (w w' : machine.Worker) → ShowsWorker t s.views j w
         → ((x : ℕ) → Contains w'.claims x ↔ (Contains w.claims x ⊎ ((x < t.plan.sectors) × Contains more (j, x))))
-        → (j ≡ worker → w.marks ≡ map pair_of v.marks → w'.marks ≡ map pair_of u.marks) → (j ≢ worker → w'.marks ≡ w.marks) → w'.ended ≡ w.ended
+        → (j ≡ worker → w.marks ≡ map board_pair v.marks → w'.marks ≡ map board_pair u.marks) → (j ≢ worker → w'.marks ≡ w.marks) → w'.ended ≡ w.ended
         → ShowsWorker t (set s.views seat u) j w'
     worker_shown j w w' k drawn mine others ended = record {
       claims = λ x. (
@@ -108,7 +108,7 @@ module _ (t : Task) (s : State (Unit {0}) View) (c : machine.State) (r : Holds t
       marks = λ i y found role. ⊎_elim
           (λ (q : (i ≡ seat) × (u ≡ y)).
           let e : j ≡ worker = same_worker j worker u.role (ap (λ (z : View). z.role) q.1 ∙ role) (same ∙ is) in
-          mine e (k.marks seat v at (is ∙ ap Worker (sym e))) ∙ ap (λ (z : View). map pair_of z.marks) q.1)
+          mine e (k.marks seat v at (is ∙ ap Worker (sym e))) ∙ ap (λ (z : View). map board_pair z.marks) q.1)
           (λ (q : (i ≢ seat) × (get_elem? s.views i ≡ some y)). others (λ e. q.0 (plain.different i seat y v worker q.1 at (role ∙ ap Worker e) is)) ∙ k.marks i y q.1 role)
           (at_set s.views seat i u y found);
       unmade = λ y m l. let b = kept_back y m in let d = made_before seat worker v y at is b in others (λ e. omega arith) ∙ k.unmade y b l;
@@ -118,12 +118,12 @@ module _ (t : Task) (s : State (Unit {0}) View) (c : machine.State) (r : Holds t
     -- how the step changes the machine's worker
     pub record IsChanged (j : ℕ) (w w' : machine.Worker) : Type 0 where
       pub claims : (x : ℕ) → Contains w'.claims x ↔ (Contains w.claims x ⊎ ((x < t.plan.sectors) × Contains more (j, x)))
-      pub marks : w.marks ≡ map pair_of v.marks → w'.marks ≡ map pair_of u.marks
+      pub marks : w.marks ≡ map board_pair v.marks → w'.marks ≡ map board_pair u.marks
       pub ended : w'.ended ≡ w.ended
 
     pub step_shown : (words : List ℕ) (homes : List (Option (Unit {0}))) (next : ℕ) (marked : List Pair) (workers : List machine.Worker)
         → next ≡ min (get_or words 0 0) t.plan.sectors
-        → ((p : ℕ × ℕ) → Contains marked (pair_of p) ↔ (IsPair t.plan.sectors p × IsSet t.plan.sectors words p))
+        → ((p : ℕ × ℕ) → Contains marked (board_pair p) ↔ (IsBoardPair t.plan.sectors p × IsBitSet t.plan.sectors words p))
         → length workers ≡ length c.workers
         → ((j : ℕ) (w : machine.Worker) → j ≢ worker → get_elem? c.workers j ≡ some w → get_elem? workers j ≡ some w)
         → ((j : ℕ) (w' : machine.Worker) → get_elem? workers j ≡ some w' → (w : machine.Worker) × (get_elem? c.workers j ≡ some w) × (j ≡ worker → IsChanged j w w') × (j ≢ worker → w' ≡ w))
@@ -143,6 +143,6 @@ module _ (t : Task) (s : State (Unit {0}) View) (c : machine.State) (r : Holds t
         (λ a.
             let q = back a.0 a.1 a.3 in
             let f : a.1 ≡ q.0 = q.3 (λ e. not_joined seat worker v y at is k (subst (Contains y.joined) e a.2)) in
-            (h.joined y k p).1 (a.0, q.0, a.2, q.1, subst (λ (w : machine.Worker). Contains w.marks (pair_of p)) f a.4)),
+            (h.joined y k p).1 (a.0, q.0, a.2, q.1, subst (λ (w : machine.Worker). Contains w.marks (board_pair p)) f a.4)),
       );
     }

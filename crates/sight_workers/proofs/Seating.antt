@@ -19,9 +19,9 @@ use Rattle.sight_workers.specs.declared.view.Task.{Task}
 use Rattle.sight_workers.specs.declared.view.View.{View}
 use Rattle.sight_workers.specs.declared.view.SeatRole.{SeatRole}
 use Rattle.sight_workers.specs.declared.view.SeatRole.TheVariants.{Keeper, Worker}
-use Rattle.sight_workers.specs.Board.{Holds, bit_of, keeper_of, numbers_of, spent, word_count, word_of}
+use Rattle.sight_workers.specs.Board.{Holds, bit_in_word, keeper_of, numbers_of, spent, word_count, bit_word_of}
 use Rattle.sight_workers.specs.Plays.{keeper_joined, keeper_with_more, new_worker}
-use Rattle.sight_workers.specs.Steps.{AreFindable, Follows, IsClaimedBy, IsJoinedMark, IsKept, IsSeatAt, Shows, ShowsWorker, pair_of}
+use Rattle.sight_workers.specs.Steps.{AreFindable, FollowsMachine, IsClaimedBy, IsJoinedMark, IsKeeperView, IsSeatAt, Shows, ShowsWorker, board_pair}
 use Rattle.sight_workers.proofs.Lists.{at_length, at_snoc_at, some_at}
 use Rattle.sight_workers.proofs.Machines.{active, clash, contains_map, contains_unmap, not_joined, plain, same_worker}
 use Rattle.sight_workers.proofs.Places.{word_inside}
@@ -43,7 +43,7 @@ module _ (t : Task) (s : State (Unit {0}) View) (c : machine.State) (r : Holds t
         (λ (b : (j ≡ length (set s.views seat (keeper_with_more v))) × (new_worker v ≡ y)). inr (inr b.1))
         (at_snoc_at (set s.views seat (keeper_with_more v)) (new_worker v) y j e)
 
-    kept_more : (y : View) → IsKept made_views y → keeper_with_more v ≡ y
+    kept_more : (y : View) → IsKeeperView made_views y → keeper_with_more v ≡ y
     kept_more y k = ⊎_elim (λ (a : (k.0 ≡ seat) × (keeper_with_more v ≡ y)). a.1)
         (λ (b : ((k.0 ≢ seat) × (get_elem? s.views k.0 ≡ some y)) ⊎ (new_worker v ≡ y)). ⊎_elim
         (λ (q : (k.0 ≢ seat) × (get_elem? s.views k.0 ≡ some y)). absurd (one_seat seat k.0 v y at is q.1 k.2 q.0))
@@ -70,7 +70,7 @@ module _ (t : Task) (s : State (Unit {0}) View) (c : machine.State) (r : Holds t
           (λ (b : ((i ≢ seat) × (get_elem? s.views i ≡ some y)) ⊎ (new_worker v ≡ y)). ⊎_elim
           (λ (q : (i ≢ seat) × (get_elem? s.views i ≡ some y)). k.marks i y q.1 role)
           (λ (q : new_worker v ≡ y). let e : j ≡ v.made = same_worker j v.made y.role role (ap (λ (z : View). z.role) (sym q)) in
-          k.unmade v (seat, at, is) (omega arith) ∙ ap (λ (z : View). map pair_of z.marks) q) b)
+          k.unmade v (seat, at, is) (omega arith) ∙ ap (λ (z : View). map board_pair z.marks) q) b)
           (after_split i y there);
       unmade = λ y m l. let e : v.made + 1 ≡ y.made = ap (λ (z : View). z.made) (kept_more y m) in k.unmade v (seat, at, is) (omega arith);
       ended = λ y m. subst (λ (z : View). (w.ended ≡ true) ↔ Contains z.joined j) (kept_more y m) (k.ended v (seat, at, is));
@@ -115,7 +115,7 @@ module _ (t : Task) (s : State (Unit {0}) View) (c : machine.State) (r : Holds t
     spent_is_none : (y : View) (w : ℕ) → spent ≡ y → y.role ≢ Worker w
     spent_is_none y w e f = let g = ap (λ (z : View). z.role) e ∙ f in cc
 
-    kept_both : (y : View) → IsKept views y → both ≡ y
+    kept_both : (y : View) → IsKeeperView views y → both ≡ y
     kept_both y k = ⊎_elim (λ (a : spent ≡ y). absurd (not_spent y a k.2))
         (λ (b : ((k.0 ≡ seat) × (both ≡ y)) ⊎ ((k.0 ≢ other) × (k.0 ≢ seat) × (get_elem? s.views k.0 ≡ some y))). ⊎_elim
         (λ (q : (k.0 ≡ seat) × (both ≡ y)). q.1)
@@ -190,7 +190,7 @@ module _ (t : Task) (s : State (Unit {0}) View) (c : machine.State) (r : Holds t
             machine.at_end w.0,
             contains_right worker v.joined (numbers_of u.role) (subst (λ (q : SeatRole). Contains (numbers_of q) worker) (sym its.1) (contains_here worker [])),
             change_here machine.at_end worker c.workers w.0 w.1,
-            subst (λ (ps : List Pair). Contains ps (pair_of p)) (sym ((h.workers worker w.0 w.1).marks other u its.0 its.1)) (contains_map u.marks p b),
+            subst (λ (ps : List Pair). Contains ps (board_pair p)) (sym ((h.workers worker w.0 w.1).marks other u its.0 its.1)) (contains_map u.marks p b),
           ))
           (contains_append p v.marks u.marks m)),
       back,
@@ -199,19 +199,19 @@ module _ (t : Task) (s : State (Unit {0}) View) (c : machine.State) (r : Holds t
         back : IsJoinedMark (record c { workers = workers }) both p → Contains (v.marks ++ u.marks) p
         back m = dite (ℕ_discrete m.0 worker)
             (λ e. let f = ap (λ (z : machine.Worker). z.marks) (w.2 e) in
-            contains_right p v.marks u.marks (contains_unmap u.marks p (subst (λ (ps : List Pair). Contains ps (pair_of p)) (f ∙ (h.workers m.0 w.0 w.1).marks other u its.0 (its.1 ∙ ap Worker (sym e))) m.4)))
+            contains_right p v.marks u.marks (contains_unmap u.marks p (subst (λ (ps : List Pair). Contains ps (board_pair p)) (f ∙ (h.workers m.0 w.0 w.1).marks other u its.0 (its.1 ∙ ap Worker (sym e))) m.4)))
             (λ n. contains_left p v.marks u.marks ((h.joined v (seat, at, is) p).1 (
               m.0,
               w.0,
               ⊎_elim (λ (d : Contains v.joined m.0). d) (λ (d : Contains (numbers_of u.role) m.0). absurd (n (sym (contains_one m.0 worker (subst (λ (q : SeatRole). Contains (numbers_of q) m.0) its.1 d))))) (contains_append m.0 v.joined (numbers_of u.role) m.2),
               w.1,
-              subst (λ (z : machine.Worker). Contains z.marks (pair_of p)) (w.3 n) m.4,
+              subst (λ (z : machine.Worker). Contains z.marks (board_pair p)) (w.3 n) m.4,
             )))
           where
             w : (x : machine.Worker) × (get_elem? c.workers m.0 ≡ some x) × (m.0 ≡ worker → m.1 ≡ machine.at_end x) × (m.0 ≢ worker → m.1 ≡ x)
             w = changed_at machine.at_end worker c.workers m.0 m.1 m.3
 
-    pub joins : Follows t s c (End worker) Done record { words = s.words; homes = s.homes; views = set (set s.views seat (keeper_joined v u)) other spent }
+    pub joins : FollowsMachine t s c (End worker) Done record { words = s.words; homes = s.homes; views = set (set s.views seat (keeper_joined v u)) other spent }
     joins = (
       active t s c r h other worker u its.0 its.1,
       refl,
@@ -235,10 +235,10 @@ opens t words findable wide clear are = record {
   findable = are;
   next = let z = clear 0 (omega arith) in omega arith;
   marked = λ p. (
-    (λ m. absurd (contains_none (pair_of p) m)),
+    (λ m. absurd (contains_none (board_pair p) m)),
     (λ m.
         let a = word_inside t.plan.sectors p m.0 in
-        let z : bit_at (get_or words (word_of t.plan.sectors p + 1) 0) (bit_of t.plan.sectors p) ≡ 0 = ap (λ (y : ℕ). bit_at y (bit_of t.plan.sectors p)) (clear (word_of t.plan.sectors p + 1) (omega arith)) ∙ bit_at-zero (bit_of t.plan.sectors p) in
+        let z : bit_at (get_or words (bit_word_of t.plan.sectors p + 1) 0) (bit_in_word t.plan.sectors p) ≡ 0 = ap (λ (y : ℕ). bit_at y (bit_in_word t.plan.sectors p)) (clear (bit_word_of t.plan.sectors p + 1) (omega arith)) ∙ bit_at-zero (bit_in_word t.plan.sectors p) in
         let o = m.1 in absurd (omega arith)),
   );
   many = long t.workers;

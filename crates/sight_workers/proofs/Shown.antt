@@ -7,8 +7,8 @@ use mathlib.Core.Option.{some}
 use native.Mathlib.Decide.{ℕ_discrete}
 use lib.ListN.{get_elem?}
 use Rattle.sight_workers.specs.declared.view.View.{View}
-use Rattle.sight_workers.specs.Board.{IsFindable, IsMarked, IsPair, IsSet, bit_of, claims_of, once_below, weigh, word_of}
-use Rattle.sight_workers.specs.Shown.{IsClaimed, WordsShowViews}
+use Rattle.sight_workers.specs.Board.{IsFindable, IsPairMarked, IsBoardPair, IsBitSet, bit_in_word, claims_of, once_below, weigh, bit_word_of}
+use Rattle.sight_workers.specs.Shown.{IsNumberClaimed, WordsShowViews}
 use Rattle.sight_workers.proofs.Lists.{claim_below}
 use Rattle.sight_workers.proofs.Places.{same_pair, word_inside}
 use Rattle.math_base.proofs.Numbers.{is_told_same}
@@ -42,15 +42,15 @@ shown t s r = record {
   seen = λ seat v p at h. let k = (r.each seat v at).seen p h in (found p k.0 k.1).1;
 }
   where
-    is_claimed : (x : ℕ) → x < get_or s.words 0 0 → IsClaimed s.views x
+    is_claimed : (x : ℕ) → x < get_or s.words 0 0 → IsNumberClaimed s.views x
     is_claimed x l =
         let v = weigh_some (λ (y : View). claims_of x y.claims) s.views (λ z. claimed_below x (get_or s.words 0 0) l (sym (r.once x) ∙ z)) in
         let c = claim_some x v.1.claims v.3 in
         (v.0, v.1, c.0, v.2, c.1)
 
     -- a pair whose bit is set
-    found : (p : ℕ × ℕ) → IsPair t.plan.sectors p → IsSet t.plan.sectors s.words p → IsFindable t p × IsMarked s.views p
+    found : (p : ℕ × ℕ) → IsBoardPair t.plan.sectors p → IsBitSet t.plan.sectors s.words p → IsFindable t p × IsPairMarked s.views p
     found p pair is_set =
-        let m = r.bits (word_of t.plan.sectors p) (bit_of t.plan.sectors p) (word_inside t.plan.sectors p pair) (omega arith) is_set in
+        let m = r.bits (bit_word_of t.plan.sectors p) (bit_in_word t.plan.sectors p) (word_inside t.plan.sectors p pair) (omega arith) is_set in
         let e : m.0 ≡ p = same_pair t.plan.sectors m.0 p m.1 pair m.2 m.3 in
-        subst (λ (q : ℕ × ℕ). IsFindable t q × IsMarked s.views q) e (m.4, m.5)
+        subst (λ (q : ℕ × ℕ). IsFindable t q × IsPairMarked s.views q) e (m.4, m.5)

@@ -5,22 +5,22 @@ use Rattle.pair_budget.specs.declared.results.SourceResult.{SourceResult}
 use Rattle.pair_budget.specs.Notes.{ordered}
 use Rattle.sight_names.specs.Found.{Found}
 use Rattle.sight_names.specs.Map.{map_of}
-use Rattle.pair_budget.specs.Exact.{IsExact}
+use Rattle.pair_budget.specs.Exact.{IsOutcomeExact}
 use Rattle.pair_budget.specs.Through.{AreThrough}
 use Rattle.pair_budget.specs.Walked.{AreReached, IsOutcome}
-use Rattle.pair_budget.specs.Whole.{IsShown}
+use Rattle.pair_budget.specs.Whole.{ShowsIfComplete}
 use Rattle.sight_workers.specs.declared.view.Task.{Task}
 use Rattle.sight_workers.specs.declared.view.View.{View}
 use Rattle.sight_workers.specs.Serves.{IsLater}
 use Rattle.sight_workers.specs.Watches.{IsLookOnly}
 use Rattle.sight_workers.specs.declared.job.Job.{Job}
-use Rattle.sight_workers.specs.Board.{IsPair, IsFindable, IsFoundWithin, task_for}
-use Rattle.sight_workers.specs.Walks.{IsMarkedBy, IsWalked}
+use Rattle.sight_workers.specs.Board.{IsBoardPair, IsFindable, IsFoundWithin, task_for}
+use Rattle.sight_workers.specs.Walks.{IsMarkedBy, IsSourceWalked}
 use Rattle.sight_workers.proofs.Watches.{ordered_pair}
 use Rattle.math_base.proofs.Lists.{contains_map, contains_append, contains_left, contains_one}
 
 -- the pair of a source and another sector that is found from it may be marked
-pub found_pair : (t : Task) (a b : ℕ) → a < t.plan.sectors → b ≢ a → b < t.plan.sectors → IsFoundWithin t a b → IsPair t.plan.sectors (ordered a b) × IsFindable t (ordered a b)
+pub found_pair : (t : Task) (a b : ℕ) → a < t.plan.sectors → b ≢ a → b < t.plan.sectors → IsFoundWithin t a b → IsBoardPair t.plan.sectors (ordered a b) × IsFindable t (ordered a b)
 found_pair t a b within other below found = (ordered_pair t.plan.sectors a b (λ e. other (sym e)) within below, findable (ltb a b))
   where
     findable : (q : Bool) → IsFindable t (cond q (a, b) (b, a))
@@ -29,9 +29,9 @@ found_pair t a b within other below found = (ordered_pair t.plan.sectors a b (λ
 
 -- so all that a walk of the job may tell may be marked on its board
 pub told_pair : (j : Job) (workers : ℕ) (t : Task) → t ≡ task_for j workers → (a b : ℕ) → a < j.plan.now.sectors → b ≢ a → b < j.plan.now.sectors → Found (map_of j.plan.now) j.mesh.now.triangles j.labels.now a b j.budget
-    → IsPair t.plan.sectors (ordered a b) × IsFindable t (ordered a b)
+    → IsBoardPair t.plan.sectors (ordered a b) × IsFindable t (ordered a b)
 told_pair j workers t same a b within other below found =
-    subst (λ (u : Task). IsPair u.plan.sectors (ordered a b) × IsFindable u (ordered a b)) (sym same) (found_pair (task_for j workers) a b within other below (record { found = found }))
+    subst (λ (u : Task). IsBoardPair u.plan.sectors (ordered a b) × IsFindable u (ordered a b)) (sym same) (found_pair (task_for j workers) a b within other below (record { found = found }))
 
 pub later_look : (v w : View) → IsLookOnly v w → IsLater v w
 later_look v w l = record { marks = λ p h. subst (λ (ms : List (ℕ × ℕ)). Contains ms p) (sym l.marks) h; seen = l.seen; looks = l.looks }
@@ -65,7 +65,7 @@ ok_weaker (Err e) P Q f h = tt
 
 -- all that the walk of a source promises of its result
 pub ok_walked : {E : Type 0} (t : Task) (source : ℕ) (result : Result SourceResult E) → IfOk result (λ (r : SourceResult). r.source ≡ source) → IfOk result (λ (r : SourceResult). AreReached t.plan source r.found) → IfOk result (λ (r : SourceResult). IsOutcome source t.budget true r.outcome)
-    → IfOk result (λ (r : SourceResult). IsShown t.plan t.mesh.triangles t.labels r.found r.outcome) → IfOk result (λ (r : SourceResult). IsExact (map_of t.plan) t.mesh.triangles t.labels source t.budget r.found r.outcome) → IfOk result (λ (r : SourceResult). AreThrough t.plan t.mesh.triangles t.labels source r.found)
-    → IfOk result (IsWalked t source)
+    → IfOk result (λ (r : SourceResult). ShowsIfComplete t.plan t.mesh.triangles t.labels r.found r.outcome) → IfOk result (λ (r : SourceResult). IsOutcomeExact (map_of t.plan) t.mesh.triangles t.labels source t.budget r.found r.outcome) → IfOk result (λ (r : SourceResult). AreThrough t.plan t.mesh.triangles t.labels source r.found)
+    → IfOk result (IsSourceWalked t source)
 ok_walked t source (Ok r) is found outcome shown exact through = record { source_is = is; found = found; outcome = outcome; shown = shown; exact = exact; through = through }
 ok_walked t source (Err e) is found outcome shown exact through = tt

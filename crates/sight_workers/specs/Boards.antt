@@ -9,7 +9,7 @@ use Rattle.sight_workers.specs.declared.view.Task.{Task}
 use Rattle.sight_workers.specs.declared.view.View.{View}
 use Rattle.sight_workers.specs.Desks.{IsSeatOfDesk, job_of_desk, task_of_desk, sectors_of_desk}
 use Rattle.sight_workers.specs.Given.{AreNew}
-use Rattle.sight_workers.specs.Teams.{AreFresh, AreDone}
+use Rattle.sight_workers.specs.Teams.{AreFresh, AreHandsDone}
 
 abbrev pub job_of_board : Board → Job
 job_of_board b = job_of_desk b.desk
@@ -52,7 +52,7 @@ abbrev pub AreFreshOfDesk : Desk → ℕ → List Hand → Type 0
 AreFreshOfDesk d workers hands = AreFresh d.table.shared.table_id (task_of_desk d) workers hands
 
 abbrev pub AreDoneOfDesk : Desk → List ℕ → ℕ → List Hand → Type 0
-AreDoneOfDesk d components workers hands = AreDone d.table.shared.table_id (task_of_desk d) components workers hands
+AreDoneOfDesk d components workers hands = AreHandsDone d.table.shared.table_id (task_of_desk d) components workers hands
 
 abbrev pub AreFreshOfBoard : Board → ℕ → List Hand → Type 0
 AreFreshOfBoard b workers hands = AreFreshOfDesk b.desk workers hands

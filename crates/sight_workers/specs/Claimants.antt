@@ -4,7 +4,7 @@ use Rattle.std.specs.List.{Contains}
 use Rattle.sight_workers.specs.declared.view.Task.{Task}
 use Rattle.sight_workers.specs.declared.view.View.{View}
 use Rattle.sight_workers.specs.Claims.{lows}
-use Rattle.sight_workers.specs.Ends.{IsOver, IsComplete}
+use Rattle.sight_workers.specs.Ends.{IsViewOver, IsViewComplete}
 
 -- at the place of each source that was claimed stands a worker whose claim it is
 abbrev pub NamesClaimants : ℕ → View → List ℕ → Type 0
@@ -15,6 +15,6 @@ NamesClaimants n v workers = (k w : ℕ) → Contains (lows n v.claims) k → sl
 pub record AreClaimants (t : Task) (workers : List ℕ) : Type 0 where
   pub view : View
   pub task : view.task ≡ t
-  pub over : IsOver view
-  pub complete : IsComplete view
+  pub over : IsViewOver view
+  pub complete : IsViewComplete view
   pub claimed : (k w : ℕ) → k < t.plan.sectors → slice_get workers k ≡ Some w → Contains view.claims (w, k)

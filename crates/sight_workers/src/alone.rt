@@ -2,13 +2,13 @@
 
 ghost use Rattle.std.specs.Prelude.{◌≡◌, ◌<◌, All, length, IfOk};
 ghost use Rattle.portal_walk.specs.Terrain.{IsTerrain};
-ghost use Rattle.pair_budget.specs.Decide.{AreResults, IsSettled};
+ghost use Rattle.pair_budget.specs.Decide.{AreResults, AreResultsSettled};
 ghost use Rattle.sight_workers.specs.Board.{task_for};
 ghost use Rattle.sight_workers.specs.Boards.{AreDoneOfDesk, AreFreshOfDesk};
 ghost use Rattle.sight_workers.specs.Claimants.{AreClaimants};
 ghost use Rattle.sight_workers.specs.Desks.{job_of_desk, sectors_of_desk};
 ghost use Rattle.sight_workers.specs.Jobs.{IsJob};
-ghost use Rattle.sight_workers.specs.Teams.{AreWalked, IsWhole};
+ghost use Rattle.sight_workers.specs.Teams.{AreWalked, AreResultsWhole};
 
 use crate::board::{Board, sectors_of};
 use crate::desk::Desk;
@@ -53,7 +53,7 @@ fn walk_in_turn<G: Gate>(
     requires components { length components.now ≡ job.plan.now.sectors }
     requires job { IsJob job }
     requires below { All (λ w. w < 1) claimed_by.old }
-    ensures whole { IfOk result (λ v. IsWhole job.entry.plan.now.sectors components.now (task_for job.entry 1) v.items) }
+    ensures whole { IfOk result (λ v. AreResultsWhole job.entry.plan.now.sectors components.now (task_for job.entry 1) v.items) }
     ensures len { IfOk result (λ _. length claimed_by.new ≡ length claimed_by.old) }
     ensures below { IfOk result (λ _. All (λ w. w < 1) claimed_by.new) }
     ensures claimants { IfOk result (λ _. AreClaimants (task_for job.entry 1) claimed_by.new) }
@@ -76,7 +76,7 @@ fn walk_over<G: Gate>(
     requires job { IsJob job }
     requires terrain { IsTerrain job.plan.now job.mesh.now.triangles job.labels.now terrain.now }
     requires below { All (λ w. w < 1) claimed_by.old }
-    ensures whole { IfOk result (λ v. IsWhole job.entry.plan.now.sectors components.now (task_for job.entry 1) v.items) }
+    ensures whole { IfOk result (λ v. AreResultsWhole job.entry.plan.now.sectors components.now (task_for job.entry 1) v.items) }
     ensures len { IfOk result (λ _. length claimed_by.new ≡ length claimed_by.old) }
     ensures below { IfOk result (λ _. All (λ w. w < 1) claimed_by.new) }
     ensures claimants { IfOk result (λ _. AreClaimants (task_for job.entry 1) claimed_by.new) }
@@ -102,7 +102,7 @@ pub fn walk_alone<G: Gate>(alloc: Global, job: Job<'_>, gate: &G) -> Result<Gath
     requires job { IsJob job }
     ensures results { IfOk result (λ g. AreResults job.entry.plan.now g.results) }
     ensures walked { IfOk result (λ g. AreWalked (task_for job.entry 1) g.results) }
-    ensures settled { IfOk result (λ g. IsSettled g.results job.entry.components.now) }
+    ensures settled { IfOk result (λ g. AreResultsSettled g.results job.entry.components.now) }
     ensures claimed_by { IfOk result (λ g. (length g.claimed_by ≡ job.entry.plan.now.sectors) × All (λ w. w < 1) g.claimed_by) }
     ensures claimants { IfOk result (λ g. AreClaimants (task_for job.entry 1) g.claimed_by) }
 {

@@ -11,7 +11,7 @@ use Rattle.sight_names.specs.Map.{MapLine, IsMapLine, line_at, looked_up, map_of
 use Rattle.sight_names.proofs.Lists.{get_of_contains}
 use Rattle.sight_names.proofs.PlanMap.{line_of_plan, plan_is_map}
 use Rattle.sound_reach.specs.declared.doors.Door.{Door}
-use Rattle.sound_reach.specs.Doors.{AreAdded, AreDoors, AreDoorsFrom, IsDoor, IsDoorOf, IsStart, sector_of}
+use Rattle.sound_reach.specs.Doors.{AreDoorsAdded, AreDoors, AreDoorsFrom, IsSoundDoor, IsDoorOf, IsDoorStart, sector_beside}
 use Rattle.math_base.proofs.Numbers.{below_or_not, below_or_last}
 use Rattle.sight_names.proofs.Records.{none_is_no_line}
 
@@ -19,22 +19,22 @@ use Rattle.sight_names.proofs.Records.{none_is_no_line}
 
 -- the doors of the lines before n
 abbrev pub AreDoorsBelow : PlanParts → List Bool → ℕ → List Door → Type 0
-AreDoorsBelow p d n es = (e : Door) → Contains es e ↔ ((e.side.line < n) × IsDoor (map_of p) d e)
+AreDoorsBelow p d n es = (e : Door) → Contains es e ↔ ((e.side.line < n) × IsSoundDoor (map_of p) d e)
 
 plan_line : (points : List Pt) (ls : List (Option Line)) (i : ℕ) (l : Line) → slice_get ls i ≡ Some (Some l) → option_and_then (λ k. k) (slice_get (map (option_map (looked_up points)) ls) i) ≡ Some (looked_up points l)
 plan_line points ls i l e = ap (option_and_then (λ (k : Option MapLine). k)) (slice_get-map (option_map (looked_up points)) ls i ∙ ap (option_map (option_map (looked_up points))) e)
 
-side_on : (points : List Pt) (l : Line) (b : Bool) → sector_on (looked_up points l) b ≡ sector_of l b
+side_on : (points : List Pt) (l : Line) (b : Bool) → sector_on (looked_up points l) b ≡ sector_beside l b
 side_on points l true = refl
 side_on points l false = refl
 
-door_of_line : (p : PlanParts) (d : List Bool) (n : ℕ) (l : Line) (e : Door) → slice_get p.lines n ≡ Some (Some l) → IsDoorOf n l (slice_index_or d n false) e → IsDoor (map_of p) d e
+door_of_line : (p : PlanParts) (d : List Bool) (n : ℕ) (l : Line) (e : Door) → slice_get p.lines n ≡ Some (Some l) → IsDoorOf n l (slice_index_or d n false) e → IsSoundDoor (map_of p) d e
 door_of_line p d n l e at door = record {
   leads = (looked_up p.points l, subst (λ (k : ℕ). line_at (map_of p) k ≡ Some (looked_up p.points l)) (sym door.line) (plan_line p.points p.lines n l at), door.passable, side_on p.points l e.side.left ∙ door.from, side_on p.points l (not e.side.left) ∙ door.to);
   damped = door.damped ∙ ap (λ (k : ℕ). slice_index_or d k false) (sym door.line);
 }
 
-line_of_door : (p : PlanParts) (d : List Bool) (e : Door) → IsDoor (map_of p) d e → (l : Line) × (slice_get p.lines e.side.line ≡ Some (Some l)) × IsDoorOf e.side.line l (slice_index_or d e.side.line false) e
+line_of_door : (p : PlanParts) (d : List Bool) (e : Door) → IsSoundDoor (map_of p) d e → (l : Line) × (slice_get p.lines e.side.line ≡ Some (Some l)) × IsDoorOf e.side.line l (slice_index_or d e.side.line false) e
 line_of_door p d e door =
     let w = door.leads in
     let k = line_of_plan p.points p.lines e.side.line w.0 w.1 in (
@@ -49,16 +49,16 @@ line_of_door p d e door =
       },
     )
 
-pub line_added : (p : PlanParts) (d : List Bool) (n : ℕ) (l : Line) (blocks : Bool) (old new : List Door) → slice_get p.lines n ≡ Some (Some l) → blocks ≡ slice_index_or d n false → AreAdded n l blocks old new → AreDoorsBelow p d n old → AreDoorsBelow p d (n + 1) new
+pub line_added : (p : PlanParts) (d : List Bool) (n : ℕ) (l : Line) (blocks : Bool) (old new : List Door) → slice_get p.lines n ≡ Some (Some l) → blocks ≡ slice_index_or d n false → AreDoorsAdded n l blocks old new → AreDoorsBelow p d n old → AreDoorsBelow p d (n + 1) new
 line_added p d n l blocks old new at is added h e = (there, back)
   where
-    there : Contains new e → (e.side.line < n + 1) × IsDoor (map_of p) d e
-    there c = elim ((added e).0 c) as (λ _. (e.side.line < n + 1) × IsDoor (map_of p) d e) [
+    there : Contains new e → (e.side.line < n + 1) × IsSoundDoor (map_of p) d e
+    there c = elim ((added e).0 c) as (λ _. (e.side.line < n + 1) × IsSoundDoor (map_of p) d e) [
       | inl k ↦ let w = (h e).0 k in let lt = w.0 in (omega (arith, lt), w.1)
       | inr k ↦ let q = k.line in (omega (arith, q), door_of_line p d n l e at (subst (λ (b : Bool). IsDoorOf n l b e) is k))
     ]
 
-    back : (e.side.line < n + 1) × IsDoor (map_of p) d e → Contains new e
+    back : (e.side.line < n + 1) × IsSoundDoor (map_of p) d e → Contains new e
     back w = elim (below_or_last e.side.line n w.0) as (λ _. Contains new e) [
       | inl less ↦ (added e).1 (inl ((h e).1 (less, w.1)))
       | inr same ↦
@@ -73,7 +73,7 @@ line_added p d n l blocks old new at is added h e = (there, back)
 pub none_added : (p : PlanParts) (d : List Bool) (n : ℕ) (es : List Door) → slice_get p.lines n ≡ Some None → AreDoorsBelow p d n es → AreDoorsBelow p d (n + 1) es
 none_added p d n es at h e = (λ c. let w = (h e).0 c in let lt = w.0 in (omega (arith, lt), w.1), back)
   where
-    back : (e.side.line < n + 1) × IsDoor (map_of p) d e → Contains es e
+    back : (e.side.line < n + 1) × IsSoundDoor (map_of p) d e → Contains es e
     back w = elim (below_or_last e.side.line n w.0) as (λ _. Contains es e) [
       | inl less ↦ (h e).1 (less, w.1)
       | inr same ↦ let k = line_of_door p d e w.1 in absurd (none_is_no_line k.0 (sym at ∙ ap (slice_get p.lines) (sym same) ∙ k.1))
@@ -94,7 +94,7 @@ doors_within p is d es are e c =
 
 -- ---- the doors of one sector
 
-pub start_order : (es : List Door) (c i j : ℕ) → IsStart es c i → IsStart es (c + 1) j → i ≤ j
+pub start_order : (es : List Door) (c i j : ℕ) → IsDoorStart es c i → IsDoorStart es (c + 1) j → i ≤ j
 start_order es c i j s t = elim (either i j) as (λ _. i ≤ j) [
   | inl le ↦ le
   | inr lt ↦ let w = s.within in
@@ -112,7 +112,7 @@ start_order es c i j s t = elim (either i j) as (λ _. i ≤ j) [
     got (e ∷ es) zero h = (e, refl)
     got (e ∷ es) (suc k) h = got es k (omega (arith, h))
 
-pub start_at : (es : List Door) (c i : ℕ) → i ≤ length es → IsPartitionPoint (λ (e : Door). ltb e.from c ≡ true) (λ (e : Door). ltb e.from c ≡ false) es i → IsStart es c i
+pub start_at : (es : List Door) (c i : ℕ) → i ≤ length es → IsPartitionPoint (λ (e : Door). ltb e.from c ≡ true) (λ (e : Door). ltb e.from c ≡ false) es i → IsDoorStart es c i
 start_at es c i le point = record {
   within = le;
   before = λ k e lt at. subst (λ (d : Door). d.from < c) (get_or_from_slice_get es k e e at) (ltb-true _ c (point.0 k e (omega arith) lt));
@@ -122,7 +122,7 @@ start_at es c i le point = record {
 pub doors_moved : (p : PlanParts) (d : List Bool) (es fs : List Door) → IsPermutation es fs → AreDoors (map_of p) d es → AreDoors (map_of p) d fs
 doors_moved p d es fs moved h e = (λ c. (h e).0 (Contains-permutation fs es e (IsPermutation-sym es fs moved) c), λ c. Contains-permutation es fs e moved ((h e).1 c))
 
-pub doors_between : (es : List Door) (c i j : ℕ) → IsStart es c i → IsStart es (c + 1) j → AreDoorsFrom es c (take (j - i) (drop i es))
+pub doors_between : (es : List Door) (c i j : ℕ) → IsDoorStart es c i → IsDoorStart es (c + 1) j → AreDoorsFrom es c (take (j - i) (drop i es))
 doors_between es c i j s t e = (there, back)
   where
     there : Contains (take (j - i) (drop i es)) e → Contains es e × (e.from ≡ c)

@@ -11,15 +11,15 @@ use Rattle.sound_reach.specs.declared.path.Step.{Step}
 use Rattle.sound_reach.specs.declared.state.State.{State}
 use Rattle.sound_reach.specs.State.{after_of}
 use Rattle.sound_reach.specs.Doors.{AreDoorsFrom, IsNet}
-use Rattle.sound_reach.specs.Routes.{AreDistances, IsRoute, IsStep, distance_at}
-use Rattle.sound_reach.specs.Steps.{Approaches, IsFirst, IsLeastStep, IsLesser, IsNotAfter, IsStepThrough}
+use Rattle.sound_reach.specs.Routes.{AreDistances, IsRoute, IsRouteStep, distance_at}
+use Rattle.sound_reach.specs.Steps.{Approaches, IsFirstRoute, IsLeastStep, IsLesser, IsSideNotAfter, IsStepThrough}
 use Rattle.math_base.proofs.Options.{none_is_not_some}
 use Rattle.math_base.proofs.Numbers.{below_or_last}
 
 -- ---- the lesser of two sides
 
-pub not_after_after : (s t u : Side) → IsNotAfter s t → IsNotAfter t u → IsNotAfter s u
-not_after_after s t u (inl e) h = subst (λ (z : Side). IsNotAfter z u) (sym e) h
+pub not_after_after : (s t u : Side) → IsSideNotAfter s t → IsSideNotAfter t u → IsSideNotAfter s u
+not_after_after s t u (inl e) h = subst (λ (z : Side). IsSideNotAfter z u) (sym e) h
 not_after_after s t u (inr k) (inl e) = inr (subst (λ (z : Side). SideBefore s z) e k)
 not_after_after s t u (inr k) (inr h) = inr (chained s.line t.line u.line s.left t.left u.left k h)
   where
@@ -34,7 +34,7 @@ not_after_after s t u (inr k) (inr h) = inr (chained s.line t.line u.line s.left
 -- the doors before place n were looked through
 pub record IsLeastBelow (ds : List (Option ℕ)) (left : ℕ) (spare : Bool) (found : List Door) (n : ℕ) (best : Option Step) : Type 0 where
   pub through : (step : Step) → best ≡ Some step → (e : Door) × Contains found e × IsStepThrough ds left spare e (Some step)
-  pub least : (k : ℕ) (e : Door) (y : State) → k < n → slice_get found k ≡ Some e → Approaches ds left spare e y → (step : Step) × (best ≡ Some step) × IsNotAfter step.side e.side
+  pub least : (k : ℕ) (e : Door) (y : State) → k < n → slice_get found k ≡ Some e → Approaches ds left spare e y → (step : Step) × (best ≡ Some step) × IsSideNotAfter step.side e.side
 
 pub least_more : (ds : List (Option ℕ)) (left : ℕ) (spare : Bool) (found : List Door) (n : ℕ) (best step result : Option Step) (e : Door) → Contains found e → slice_get found n ≡ Some e
     → IsStepThrough ds left spare e step → IsLesser best step result → IsLeastBelow ds left spare found n best → IsLeastBelow ds left spare found (n + 1) result
@@ -43,12 +43,12 @@ least_more ds left spare found n best step result e there at through lesser h = 
     | inl old ↦ h.through s (old ∙ is)
     | inr new ↦ (e, there, subst (λ (o : Option Step). IsStepThrough ds left spare e o) (new ∙ is) through)
   ];
-  least = λ k d y lt got near. elim (below_or_last k n lt) as (λ _. (s : Step) × (result ≡ Some s) × IsNotAfter s.side d.side) [
+  least = λ k d y lt got near. elim (below_or_last k n lt) as (λ _. (s : Step) × (result ≡ Some s) × IsSideNotAfter s.side d.side) [
     | inl less ↦ let w = h.least k d y less got near in let v = lesser.least w.0 (inl w.1) in (v.0, v.1, not_after_after v.0.side w.0.side d.side v.2 w.2)
     | inr same ↦ let f : e ≡ d = same_Some e d (sym at ∙ ap (slice_get found) (sym same) ∙ got) in
         let w = passing step through (subst (λ (c : Door). Approaches ds left spare c y) (sym f) near) in
         let v = lesser.least w.0 (inr w.1) in
-        (v.0, v.1, subst (λ (t : Side). IsNotAfter v.0.side t) (w.2 ∙ ap (λ (c : Door). c.side) f) v.2)
+        (v.0, v.1, subst (λ (t : Side). IsSideNotAfter v.0.side t) (w.2 ∙ ap (λ (c : Door). c.side) f) v.2)
   ];
 }
   where
@@ -69,7 +69,7 @@ least_of_all ds left spare found n best past h = record {
 
 module _ (es : List Door) (sectors b : ℕ) (ds : List (Option ℕ)) (is : AreDistances es sectors b ds) where
   -- on a route with the fewest sides the next state is one side nearer
-  pub nearer : (x y : State) (s : Side) (left : ℕ) (ss : List Side) → distance_at ds x ≡ Some (left + 1) → IsStep es x s y → IsRoute es b y ss → length ss ≤ left → distance_at ds y ≡ Some left
+  pub nearer : (x y : State) (s : Side) (left : ℕ) (ss : List Side) → distance_at ds x ≡ Some (left + 1) → IsRouteStep es x s y → IsRoute es b y ss → length ss ≤ left → distance_at ds y ≡ Some left
   nearer x y s left ss at step route le =
       let w = is.fewest y ss route in
       let r = is.routes y w.0 w.1 in
@@ -98,7 +98,7 @@ module _ (es : List Door) (sectors b : ℕ) (ds : List (Option ℕ)) (is : AreDi
 
   module _ (net : IsNet es) where
     pub first_further : (x : State) (left : ℕ) (found : List Door) (step : Step) → AreDoorsFrom es x.sector found → distance_at ds x ≡ Some (left + 1) → IsLeastStep ds left x.spare found (Some step)
-        → (tail : List Side) → length tail ≡ left → IsFirst es b step.state tail → IsFirst es b x (step.side ∷ tail)
+        → (tail : List Side) → length tail ≡ left → IsFirstRoute es b step.state tail → IsFirstRoute es b x (step.side ∷ tail)
     first_further x left found step from at least tail len first = record {
       route = (step.state, taken, first.route);
       first = go;
@@ -110,7 +110,7 @@ module _ (es : List Door) (sectors b : ℕ) (ds : List (Option ℕ)) (is : AreDi
         there : Contains es through.0 × (through.0.from ≡ x.sector)
         there = (from through.0).0 through.1
 
-        taken : IsStep es x step.side step.state
+        taken : IsRouteStep es x step.side step.state
         taken = record { door = through.0; there = there.0; from = there.1; side = sym through.2.1; behind = through.2.0.behind }
 
         go : (other : List Side) → IsRoute es b x other → length other ≡ suc (length tail) → (other ≡ step.side ∷ tail) ⊎ SidesBefore (step.side ∷ tail) other
@@ -143,10 +143,10 @@ module _ (es : List Door) (sectors b : ℕ) (ds : List (Option ℕ)) (is : AreDi
                 lower : (n m : ℕ) → suc n ≡ suc m → n ≡ m
                 lower n m e = omega (arith, e)
 
-  pub first_at_end : (x : State) → distance_at ds x ≡ Some 0 → IsFirst es b x []
+  pub first_at_end : (x : State) → distance_at ds x ≡ Some 0 → IsFirstRoute es b x []
   first_at_end x at = let r = is.routes x 0 at in go r.0 r.1 r.2
     where
-      go : (ss : List Side) → IsRoute es b x ss → length ss ≡ 0 → IsFirst es b x []
+      go : (ss : List Side) → IsRoute es b x ss → length ss ≡ 0 → IsFirstRoute es b x []
       go [] route len = record { route = route; first = none }
         where
           none : (other : List Side) → IsRoute es b x other → length other ≡ 0 → (other ≡ []) ⊎ SidesBefore [] other
@@ -158,7 +158,7 @@ module _ (es : List Door) (sectors b : ℕ) (ds : List (Option ℕ)) (is : AreDi
 pub record IsOnWay (es : List Door) (b : ℕ) (ds : List (Option ℕ)) (from : State) (distance done : ℕ) (sides : List Side) (at : State) : Type 0 where
   pub len : length sides ≡ done
   pub here : distance_at ds at ≡ Some (distance - done)
-  pub first : (tail : List Side) → length tail ≡ distance - done → IsFirst es b at tail → IsFirst es b from (sides ++ tail)
+  pub first : (tail : List Side) → length tail ≡ distance - done → IsFirstRoute es b at tail → IsFirstRoute es b from (sides ++ tail)
 
 pub way_begun : (es : List Door) (b : ℕ) (ds : List (Option ℕ)) (from : State) (distance : ℕ) → distance_at ds from ≡ Some distance → IsOnWay es b ds from distance 0 [] from
 way_begun es b ds from distance at = record { len = refl; here = at ∙ ap Some (minus_none distance); first = λ tail len h. h }
@@ -178,7 +178,7 @@ way_on es sectors b ds is net from distance done sides at found best step lt doo
     record {
       len = longer sides step.side done h.len;
       here = ((least'.through step refl).2.0.distance) ∙ ap Some (one_less distance done);
-      first = λ tail len first. subst (IsFirst es b from) (sym (append_assoc sides (step.side ∷ []) tail))
+      first = λ tail len first. subst (IsFirstRoute es b from) (sym (append_assoc sides (step.side ∷ []) tail))
           (h.first (step.side ∷ tail) (tail_longer (length tail) distance done lt len) (first_further es sectors b ds is net at (distance - done - 1) found step doors here least' tail (len ∙ sym (one_less distance done)) first));
     }
   where
@@ -191,10 +191,10 @@ way_on es sectors b ds is net from distance done sides at found best step lt doo
     longer : (ss : List Side) (s : Side) (n : ℕ) → length ss ≡ n → length (ss ++ s ∷ []) ≡ n + 1
     longer ss s n e = let l = length-append ss (s ∷ []) in omega (arith, l, e)
 
-pub way_done : (es : List Door) (sectors b : ℕ) (ds : List (Option ℕ)) → AreDistances es sectors b ds → (from : State) (distance done : ℕ) (sides : List Side) (at : State) → distance ≤ done → IsOnWay es b ds from distance done sides at → IsFirst es b from sides
+pub way_done : (es : List Door) (sectors b : ℕ) (ds : List (Option ℕ)) → AreDistances es sectors b ds → (from : State) (distance done : ℕ) (sides : List Side) (at : State) → distance ≤ done → IsOnWay es b ds from distance done sides at → IsFirstRoute es b from sides
 way_done es sectors b ds is from distance done sides at past h =
     let here : distance_at ds at ≡ Some 0 = h.here ∙ ap Some (nothing distance done past) in
-    subst (IsFirst es b from) (append-nil sides) (h.first [] (sym (nothing distance done past)) (first_at_end es sectors b ds is at here))
+    subst (IsFirstRoute es b from) (append-nil sides) (h.first [] (sym (nothing distance done past)) (first_at_end es sectors b ds is at here))
   where
     nothing : (n d : ℕ) → n ≤ d → n - d ≡ 0
     nothing n d h = omega arith

@@ -7,11 +7,11 @@ use Rattle.std.proofs.lemmas.List.Sums.{sum_by-cons, count_by-le-length}
 use Rattle.std.proofs.lemmas.Option.{same_Some}
 use Rattle.sight_names.specs.declared.names.Side.{Side}
 use Rattle.sight_names.specs.Map.{Map}
-use Rattle.sight_names.specs.Noise.{AreHeardCounts, Heard, LeadThrough, is_damped}
+use Rattle.sight_names.specs.Noise.{AreHeardCounts, IsNoiseHeard, LeadThrough, is_damped}
 use Rattle.sound_reach.specs.declared.doors.Door.{Door}
 use Rattle.sound_reach.specs.Doors.{AreDoors}
 use Rattle.sound_reach.specs.Routes.{AreDistances, distance_at}
-use Rattle.sound_reach.specs.Counts.{AreFilled, AreRows, IsRow, is_near, row_at}
+use Rattle.sound_reach.specs.Counts.{AreFilled, AreRows, IsCountOfHearers, is_heard_near, distance_in}
 use Rattle.sound_reach.proofs.Lookups.{read_at, none_some}
 use Rattle.sound_reach.proofs.Mapped.{allowance, back, count_back, count_joined, heard_through, lead_back, lead_joined, leads_route, route_leads}
 use Rattle.math_base.proofs.Numbers.{below_or_not, below_or_last, same_or_not}
@@ -26,23 +26,23 @@ is_some_of : {X : Type 0} (o : Option X) (x : X) → o ≡ Some x → is_some o 
 is_some_of o x e = ap is_some e
 
 module _ (m : Map) (d : List Bool) (es : List Door) (are : AreDoors m d es) (r : ℕ) (ds : List (Option ℕ)) (is : AreDistances es m.sectors r ds) where
-  near_leads : (spare : Bool) (a : ℕ) → is_near ds spare a ≡ true → (ss : List Side) × LeadThrough m a ss r × (count_by (is_damped d) ss ≤ allowance spare)
+  near_leads : (spare : Bool) (a : ℕ) → is_heard_near ds spare a ≡ true → (ss : List Side) × LeadThrough m a ss r × (count_by (is_damped d) ss ≤ allowance spare)
   near_leads spare a e =
       let k = some_of (distance_at ds (record { sector = a; spare = spare })) e in
       let w = is.routes (record { sector = a; spare = spare }) k.0 k.1 in
       let v = route_leads m d es are r (record { sector = a; spare = spare }) w.0 w.1 in
       (w.0, v.0, v.1)
 
-  leads_near : (spare : Bool) (a : ℕ) (ss : List Side) → LeadThrough m a ss r → count_by (is_damped d) ss ≤ allowance spare → is_near ds spare a ≡ true
+  leads_near : (spare : Bool) (a : ℕ) (ss : List Side) → LeadThrough m a ss r → count_by (is_damped d) ss ≤ allowance spare → is_heard_near ds spare a ≡ true
   leads_near spare a ss lead le =
       let w = is.fewest (record { sector = a; spare = spare }) ss (leads_route m d es are a r spare ss lead le) in
       is_some_of (distance_at ds (record { sector = a; spare = spare })) w.0 w.1
 
-  pub own_near : is_near ds false r ≡ true
+  pub own_near : is_heard_near ds false r ≡ true
   own_near = leads_near false r [] refl (omega arith)
 
-  pub near_row : (a : ℕ) → is_near ds false a ≡ true → IsRow m d a (count_by (is_near ds true) (range_with_len a (m.sectors - a)))
-  near_row a quiet = record { hears = is_near ds true; tells = λ b lt. (forth b, forward b); count_is = refl }
+  pub near_row : (a : ℕ) → is_heard_near ds false a ≡ true → IsCountOfHearers m d a (count_by (is_heard_near ds true) (range_with_len a (m.sectors - a)))
+  near_row a quiet = record { hears = is_heard_near ds true; tells = λ b lt. (forth b, forward b); count_is = refl }
     where
       from : (ss : List Side) × LeadThrough m a ss r × (count_by (is_damped d) ss ≤ 0)
       from = near_leads false a quiet
@@ -50,7 +50,7 @@ module _ (m : Map) (d : List Bool) (es : List Door) (are : AreDoors m d es) (r :
       sums : (x y z n : ℕ) → x ≡ y + z → y ≤ 0 → z ≤ n → x ≤ n
       sums x y z n e f g = omega (arith, e, f, g)
 
-      forth : (b : ℕ) → IsTrue (is_near ds true b) → Heard m d a b
+      forth : (b : ℕ) → IsTrue (is_heard_near ds true b) → IsNoiseHeard m d a b
       forth b e =
           let w = near_leads true b e in
           let c = count_joined d from.0 (back w.0) in
@@ -58,7 +58,7 @@ module _ (m : Map) (d : List Bool) (es : List Door) (are : AreDoors m d es) (r :
           heard_through m d a b (from.0 ++ back w.0) (lead_joined m a r b from.0 (back w.0) from.1 (lead_back m b r w.0 w.1))
           (sums (count_by (is_damped d) (from.0 ++ back w.0)) (count_by (is_damped d) from.0) (count_by (is_damped d) (back w.0)) 1 c from.2 (subst (λ (n : ℕ). n ≤ 1) (sym k) w.2))
 
-      forward : (b : ℕ) → Heard m d a b → IsTrue (is_near ds true b)
+      forward : (b : ℕ) → IsNoiseHeard m d a b → IsTrue (is_heard_near ds true b)
       forward b (ss, path) =
           let c = count_joined d (back ss) from.0 in
           let k = count_back d ss in
@@ -74,7 +74,7 @@ both_ways : (b : Bool) → (b ≡ true) ⊎ (b ≡ false)
 both_ways true = inl refl
 both_ways false = inr refl
 
-row_within : (rows : List (Option ℕ)) (a c : ℕ) → row_at rows a ≡ Some c → a < length rows
+row_within : (rows : List (Option ℕ)) (a c : ℕ) → distance_in rows a ≡ Some c → a < length rows
 row_within [] a c e = absurd (none_some None c refl e)
 row_within (o ∷ rows) zero c e = omega arith
 row_within (o ∷ rows) (suc a) c e = let r = row_within rows a c e in omega (arith, r)
@@ -82,30 +82,30 @@ row_within (o ∷ rows) (suc a) c e = let r = row_within rows a c e in omega (ar
 pub rows_more : (m : Map) (d : List Bool) (es : List Door) → AreDoors m d es → (n : ℕ) (ds rows rows' : List (Option ℕ)) → n < m.sectors → AreDistances es m.sectors n ds → AreFilled m.sectors ds rows rows' → AreRows m d n rows → AreRows m d (n + 1) rows'
 rows_more m d es are n ds rows rows' lt is filled h = record {
   len = filled.len ∙ h.len;
-  each = λ a count e. elim (both_ways (is_near ds false a)) as (λ _. IsRow m d a count) [
-    | inl near ↦ subst (IsRow m d a) (same_Some _ count (sym (filled.near a (inside a count e) near) ∙ e)) (near_row m d es are n ds is a near)
+  each = λ a count e. elim (both_ways (is_heard_near ds false a)) as (λ _. IsCountOfHearers m d a count) [
+    | inl near ↦ subst (IsCountOfHearers m d a) (same_Some _ count (sym (filled.near a (inside a count e) near) ∙ e)) (near_row m d es are n ds is a near)
     | inr far ↦ h.each a count (sym (filled.far a (inside a count e) far) ∙ e)
   ];
-  known = λ a less. elim (both_ways (is_near ds false a)) as (λ _. (count : ℕ) × (row_at rows' a ≡ Some count)) [
-    | inl near ↦ (count_by (is_near ds true) (range_with_len a (m.sectors - a)), filled.near a (below a less) near)
-    | inr far ↦ elim (below_or_last a n less) as (λ _. (count : ℕ) × (row_at rows' a ≡ Some count)) [
+  known = λ a less. elim (both_ways (is_heard_near ds false a)) as (λ _. (count : ℕ) × (distance_in rows' a ≡ Some count)) [
+    | inl near ↦ (count_by (is_heard_near ds true) (range_with_len a (m.sectors - a)), filled.near a (below a less) near)
+    | inr far ↦ elim (below_or_last a n less) as (λ _. (count : ℕ) × (distance_in rows' a ≡ Some count)) [
       | inl l ↦ let w = h.known a l in (w.0, filled.far a (below a less) far ∙ w.1)
-      | inr same ↦ absurd (false≢true (sym far ∙ ap (is_near ds false) same ∙ own_near m d es are n ds is))
+      | inr same ↦ absurd (false≢true (sym far ∙ ap (is_heard_near ds false) same ∙ own_near m d es are n ds is))
     ]
   ];
 }
   where
-    inside : (a count : ℕ) → row_at rows' a ≡ Some count → a < m.sectors
+    inside : (a count : ℕ) → distance_in rows' a ≡ Some count → a < m.sectors
     inside a count e = let w = row_within rows' a count e in let f = filled.len in let g = h.len in omega (arith, w, f, g)
 
     below : (a : ℕ) → a < n + 1 → a < m.sectors
     below a l = omega (arith, l, lt)
 
-pub rows_known : (m : Map) (d : List Bool) (n count : ℕ) (rows : List (Option ℕ)) → row_at rows n ≡ Some count → AreRows m d n rows → AreRows m d (n + 1) rows
+pub rows_known : (m : Map) (d : List Bool) (n count : ℕ) (rows : List (Option ℕ)) → distance_in rows n ≡ Some count → AreRows m d n rows → AreRows m d (n + 1) rows
 rows_known m d n count rows e h = record {
   len = h.len;
   each = h.each;
-  known = λ a less. elim (below_or_last a n less) as (λ _. (count : ℕ) × (row_at rows a ≡ Some count)) [ inl l ↦ h.known a l | inr same ↦ (count, ap (row_at rows) same ∙ e) ];
+  known = λ a less. elim (below_or_last a n less) as (λ _. (count : ℕ) × (distance_in rows a ≡ Some count)) [ inl l ↦ h.known a l | inr same ↦ (count, ap (distance_in rows) same ∙ e) ];
 }
 
 -- ---- sums over the sectors from one on
@@ -159,9 +159,9 @@ range_length a (suc n) = ap suc (range_length (a + 1) n)
 
 -- the number in a row
 abbrev pub row_value : List (Option ℕ) → ℕ → ℕ
-row_value rows a = unwrap_or (row_at rows a) 0
+row_value rows a = unwrap_or (distance_in rows a) 0
 
-pub row_few : (m : Map) (d : List Bool) (n : ℕ) (rows : List (Option ℕ)) (a count : ℕ) → AreRows m d n rows → row_at rows a ≡ Some count → count ≤ m.sectors - a
+pub row_few : (m : Map) (d : List Bool) (n : ℕ) (rows : List (Option ℕ)) (a count : ℕ) → AreRows m d n rows → distance_in rows a ≡ Some count → count ≤ m.sectors - a
 row_few m d n rows a count h e =
     let row = h.each a count e in
     let is = row.count_is in
@@ -170,14 +170,14 @@ row_few m d n rows a count h e =
     omega (arith, is, le, len)
 
 module _ (m : Map) (d : List Bool) (rows : List (Option ℕ)) (h : AreRows m d m.sectors rows) where
-  row : (a : ℕ) (lt : a < m.sectors) → IsRow m d a (h.known a lt).0
+  row : (a : ℕ) (lt : a < m.sectors) → IsCountOfHearers m d a (h.known a lt).0
   row a lt = let k = h.known a lt in h.each a k.0 k.1
 
   pick : (a : ℕ) → (a < m.sectors) ⊎ (m.sectors ≤ a) → ℕ → Bool
   pick a (inl lt) b = (h.each a (h.known a lt).0 (h.known a lt).1).hears b
   pick a (inr le) b = false
 
-  tell : (a b : ℕ) (s : (a < m.sectors) ⊎ (m.sectors ≤ a)) → a < m.sectors → b < m.sectors → IsTrue (pick a s b) ↔ Heard m d a b
+  tell : (a b : ℕ) (s : (a < m.sectors) ⊎ (m.sectors ≤ a)) → a < m.sectors → b < m.sectors → IsTrue (pick a s b) ↔ IsNoiseHeard m d a b
   unfolding pick
   tell a b (inl lt) ha hb = (h.each a (h.known a lt).0 (h.known a lt).1).tells b hb
   tell a b (inr le) ha hb = absurd (omega (arith, le, ha))
@@ -206,19 +206,19 @@ module _ (m : Map) (d : List Bool) (rows : List (Option ℕ)) (h : AreRows m d m
 
 -- the last sectors, so many, are done
 pub record IsFilling (sectors : ℕ) (ds rows rows' : List (Option ℕ)) (done count : ℕ) : Type 0 where
-  pub count_is : count ≡ count_by (is_near ds true) (range_with_len (sectors - done) (sectors - (sectors - done)))
+  pub count_is : count ≡ count_by (is_heard_near ds true) (range_with_len (sectors - done) (sectors - (sectors - done)))
   pub few : count ≤ done
   pub len : length rows' ≡ length rows
-  pub near : (a : ℕ) → sectors - done ≤ a → a < sectors → is_near ds false a ≡ true → row_at rows' a ≡ Some (count_by (is_near ds true) (range_with_len a (sectors - a)))
-  pub far : (a : ℕ) → is_near ds false a ≡ false → row_at rows' a ≡ row_at rows a
+  pub near : (a : ℕ) → sectors - done ≤ a → a < sectors → is_heard_near ds false a ≡ true → distance_in rows' a ≡ Some (count_by (is_heard_near ds true) (range_with_len a (sectors - a)))
+  pub far : (a : ℕ) → is_heard_near ds false a ≡ false → distance_in rows' a ≡ distance_in rows a
 
 -- the count with one sector more
-pub counted_more : (sectors done count more b : ℕ) (ds : List (Option ℕ)) → done < sectors → b ≡ sectors - 1 - done → count ≡ count_by (is_near ds true) (range_with_len (sectors - done) (sectors - (sectors - done))) → more ≡ cond (is_near ds true b) 1 0 + count
-    → more ≡ count_by (is_near ds true) (range_with_len b (sectors - b))
+pub counted_more : (sectors done count more b : ℕ) (ds : List (Option ℕ)) → done < sectors → b ≡ sectors - 1 - done → count ≡ count_by (is_heard_near ds true) (range_with_len (sectors - done) (sectors - (sectors - done))) → more ≡ cond (is_heard_near ds true b) 1 0 + count
+    → more ≡ count_by (is_heard_near ds true) (range_with_len b (sectors - b))
 counted_more sectors done count more b ds lt is e f =
-    let s = sum_step (λ x. cond (is_near ds true x) 1 0) b sectors (omega (arith, lt, is)) in
+    let s = sum_step (λ x. cond (is_heard_near ds true x) 1 0) b sectors (omega (arith, lt, is)) in
     let g : sectors - done ≡ b + 1 = omega (arith, lt, is) in
-    let h = subst (λ k. count ≡ count_by (is_near ds true) (range_with_len k (sectors - k))) g e in
+    let h = subst (λ k. count ≡ count_by (is_heard_near ds true) (range_with_len k (sectors - k))) g e in
     omega (arith, s, h, f)
 
 pub one_more : (t : Bool) (more count : ℕ) → t ≡ true → more ≡ count + 1 → more ≡ cond t 1 0 + count
@@ -227,21 +227,21 @@ one_more t more count e f = let g : ◌≡◌ {A = ℕ} (cond t 1 0) 1 = ap (λ 
 pub none_more : (t : Bool) (more count : ℕ) → t ≡ false → more ≡ count → more ≡ cond t 1 0 + count
 none_more t more count e f = let g : ◌≡◌ {A = ℕ} (cond t 1 0) 0 = ap (λ (b : Bool). cond b 1 0) e in omega (arith, f, g)
 
-pub filling_near : (sectors done count more b : ℕ) (ds rows rows' : List (Option ℕ)) → length rows ≡ sectors → done < sectors → b ≡ sectors - 1 - done → more ≡ cond (is_near ds true b) 1 0 + count → is_near ds false b ≡ true
+pub filling_near : (sectors done count more b : ℕ) (ds rows rows' : List (Option ℕ)) → length rows ≡ sectors → done < sectors → b ≡ sectors - 1 - done → more ≡ cond (is_heard_near ds true b) 1 0 + count → is_heard_near ds false b ≡ true
     → IsFilling sectors ds rows rows' done count → IsFilling sectors ds rows (set rows' b (Some more)) (done + 1) more
 filling_near sectors done count more b ds rows rows' all lt is e near h =
     let counted = counted_more sectors done count more b ds lt is h.count_is e in
     let len : length rows' ≡ sectors = h.len ∙ all in
     record {
-      count_is = subst (λ k. more ≡ count_by (is_near ds true) (range_with_len k (sectors - k))) (next is lt) counted;
-      few = at_most (is_near ds true b) e h.few;
+      count_is = subst (λ k. more ≡ count_by (is_heard_near ds true) (range_with_len k (sectors - k))) (next is lt) counted;
+      few = at_most (is_heard_near ds true b) e h.few;
       len = length-set rows' b (Some more) ∙ h.len;
-      near = λ a ge less quiet. elim (same_or_not a b) as (λ _. row_at (set rows' b (Some more)) a ≡ Some (count_by (is_near ds true) (range_with_len a (sectors - a)))) [
-        | inl same ↦ subst (λ k. row_at (set rows' b (Some more)) k ≡ Some (count_by (is_near ds true) (range_with_len k (sectors - k)))) (sym same) (get_or-set_same rows' b (Some more) None (omega (arith, len, is, lt)) ∙ ap Some counted)
+      near = λ a ge less quiet. elim (same_or_not a b) as (λ _. distance_in (set rows' b (Some more)) a ≡ Some (count_by (is_heard_near ds true) (range_with_len a (sectors - a)))) [
+        | inl same ↦ subst (λ k. distance_in (set rows' b (Some more)) k ≡ Some (count_by (is_heard_near ds true) (range_with_len k (sectors - k)))) (sym same) (get_or-set_same rows' b (Some more) None (omega (arith, len, is, lt)) ∙ ap Some counted)
         | inr differ ↦ get_or-set_other rows' b a (Some more) None differ ∙ h.near a (higher a ge differ is lt) less quiet
       ];
-      far = λ a quiet. elim (same_or_not a b) as (λ _. row_at (set rows' b (Some more)) a ≡ row_at rows a) [
-        | inl same ↦ absurd (false≢true (sym quiet ∙ ap (is_near ds false) same ∙ near))
+      far = λ a quiet. elim (same_or_not a b) as (λ _. distance_in (set rows' b (Some more)) a ≡ distance_in rows a) [
+        | inl same ↦ absurd (false≢true (sym quiet ∙ ap (is_heard_near ds false) same ∙ near))
         | inr differ ↦ get_or-set_other rows' b a (Some more) None differ ∙ h.far a quiet
       ];
     }
@@ -256,14 +256,14 @@ filling_near sectors done count more b ds rows rows' all lt is e near h =
     higher : (a : ℕ) → sectors - (done + 1) ≤ a → (a ≡ b → ⊥) → b ≡ sectors - 1 - done → done < sectors → sectors - done ≤ a
     higher a ge differ is lt = grind arith
 
-pub filling_far : (sectors done count more b : ℕ) (ds rows rows' : List (Option ℕ)) → done < sectors → b ≡ sectors - 1 - done → more ≡ cond (is_near ds true b) 1 0 + count → is_near ds false b ≡ false
+pub filling_far : (sectors done count more b : ℕ) (ds rows rows' : List (Option ℕ)) → done < sectors → b ≡ sectors - 1 - done → more ≡ cond (is_heard_near ds true b) 1 0 + count → is_heard_near ds false b ≡ false
     → IsFilling sectors ds rows rows' done count → IsFilling sectors ds rows rows' (done + 1) more
 filling_far sectors done count more b ds rows rows' lt is e far h = record {
-  count_is = subst (λ k. more ≡ count_by (is_near ds true) (range_with_len k (sectors - k))) (next is lt) (counted_more sectors done count more b ds lt is h.count_is e);
-  few = at_most (is_near ds true b) e h.few;
+  count_is = subst (λ k. more ≡ count_by (is_heard_near ds true) (range_with_len k (sectors - k))) (next is lt) (counted_more sectors done count more b ds lt is h.count_is e);
+  few = at_most (is_heard_near ds true b) e h.few;
   len = h.len;
-  near = λ a ge less quiet. elim (same_or_not a b) as (λ _. row_at rows' a ≡ Some (count_by (is_near ds true) (range_with_len a (sectors - a)))) [
-    | inl same ↦ absurd (false≢true (sym far ∙ sym (ap (is_near ds false) same) ∙ quiet))
+  near = λ a ge less quiet. elim (same_or_not a b) as (λ _. distance_in rows' a ≡ Some (count_by (is_heard_near ds true) (range_with_len a (sectors - a)))) [
+    | inl same ↦ absurd (false≢true (sym far ∙ sym (ap (is_heard_near ds false) same) ∙ quiet))
     | inr differ ↦ h.near a (higher a ge differ is lt) less quiet
   ];
   far = h.far;
@@ -298,7 +298,7 @@ summing_begun n rows =
       few = omega arith;
     }
 
-pub summing_more : (m : Map) (d : List Bool) (rows : List (Option ℕ)) (i count pairs silent : ℕ) → AreRows m d m.sectors rows → m.sectors < 65536 → i < m.sectors → row_at rows i ≡ Some count
+pub summing_more : (m : Map) (d : List Bool) (rows : List (Option ℕ)) (i count pairs silent : ℕ) → AreRows m d m.sectors rows → m.sectors < 65536 → i < m.sectors → distance_in rows i ≡ Some count
     → IsSumming m.sectors rows i pairs silent → IsSumming m.sectors rows (i + 1) (pairs + count) (silent + (m.sectors - i - count))
 summing_more m d rows i count pairs silent h range lt at s =
     let v : count ≡ row_value rows i = sym (ap (λ (o : Option ℕ). unwrap_or o 0) at) in
@@ -317,9 +317,9 @@ summed m d rows i pairs silent h past s =
     let q = s.silent_are in
     counts_heard m d rows h pairs silent (omega (arith, x, p)) (omega (arith, y, q))
 
-pub each_known : (m : Map) (d : List Bool) (rows : List (Option ℕ)) (i : ℕ) → AreRows m d m.sectors rows → i < m.sectors → row_at rows i ≡ None → ⊥
-each_known m d rows i h lt none = let w = h.known i lt in none_some (row_at rows i) w.0 none w.1
+pub each_known : (m : Map) (d : List Bool) (rows : List (Option ℕ)) (i : ℕ) → AreRows m d m.sectors rows → i < m.sectors → distance_in rows i ≡ None → ⊥
+each_known m d rows i h lt none = let w = h.known i lt in none_some (distance_in rows i) w.0 none w.1
 
 -- a row that was read, and is known
-pub row_seen : (rows : List (Option ℕ)) (n : ℕ) (r : Option ℕ) → n < length rows → r ≡ get_or rows n r → is_some r ≡ true → (count : ℕ) × (row_at rows n ≡ Some count)
+pub row_seen : (rows : List (Option ℕ)) (n : ℕ) (r : Option ℕ) → n < length rows → r ≡ get_or rows n r → is_some r ≡ true → (count : ℕ) × (distance_in rows n ≡ Some count)
 row_seen rows n r lt e known = let w = some_of r known in (w.0, read_at rows n r None lt e ∙ w.1)

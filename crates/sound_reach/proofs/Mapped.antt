@@ -5,13 +5,13 @@ use Rattle.std.proofs.lemmas.List.Sums.{sum_by-cons, sum_by-append}
 use Rattle.std.proofs.lemmas.Option.{same_Some}
 use Rattle.sight_names.specs.declared.names.Side.{Side}
 use Rattle.sight_names.specs.Map.{Map, MapLine, sector_on}
-use Rattle.sight_names.specs.Noise.{Heard, IsFirstNoisePath, IsNoisePath, LeadsAcross, LeadThrough, is_damped}
+use Rattle.sight_names.specs.Noise.{IsNoiseHeard, IsFirstNoisePath, IsNoisePath, LeadsAcross, LeadThrough, is_damped}
 use Rattle.sound_reach.specs.declared.doors.Door.{Door}
 use Rattle.sound_reach.specs.declared.state.State.{State}
 use Rattle.sound_reach.specs.State.{after_of}
-use Rattle.sound_reach.specs.Doors.{AreDoors, IsNet, turned, turned_side}
-use Rattle.sound_reach.specs.Routes.{AreDistances, IsRoute, IsStep, distance_at}
-use Rattle.sound_reach.specs.Steps.{IsFirst}
+use Rattle.sound_reach.specs.Doors.{AreDoors, IsNet, turned_door, turned_side}
+use Rattle.sound_reach.specs.Routes.{AreDistances, IsRoute, IsRouteStep, distance_at}
+use Rattle.sound_reach.specs.Steps.{IsFirstRoute}
 use Rattle.math_base.proofs.Options.{none_is_not_some}
 use Rattle.math_base.proofs.Numbers.{same_or_not}
 use Rattle.sound_reach.proofs.Lookups.{none_some}
@@ -32,7 +32,7 @@ leads_one m s a b c d (l, at, passable, one, other) (k, at2, passable2, one2, ot
 
 pub doors_net : (m : Map) (d : List Bool) (es : List Door) → AreDoors m d es → IsNet es
 doors_net m d es are = record {
-  both = λ e c. let w = (are e).0 c in (are (turned e)).1 (record { leads = leads_back m e.side e.from e.to w.leads; damped = w.damped });
+  both = λ e c. let w = (are e).0 c in (are (turned_door e)).1 (record { leads = leads_back m e.side e.from e.to w.leads; damped = w.damped });
   one = λ e f c k same. let w = (are e).0 c in let v = (are f).0 k in
       let ends = leads_one m f.side e.from e.to f.from f.to (subst (λ (s : Side). LeadsAcross m s e.from e.to) same w.leads) v.leads in
       let damped = w.damped ∙ ap (is_damped d) same ∙ sym v.damped in
@@ -50,7 +50,7 @@ more_damped : (d : List Bool) (s : Side) (ss : List Side) (b : Bool) → is_damp
 more_damped d s ss b e = sum_by-cons (λ (t : Side). cond (is_damped d t) 1 0) s ss ∙ ap (λ (c : Bool). cond c 1 0 + count_by (is_damped d) ss) e
 
 module _ (m : Map) (d : List Bool) (es : List Door) (are : AreDoors m d es) where
-  step_leads : (x y : State) (s : Side) → IsStep es x s y → LeadsAcross m s x.sector y.sector × (cond (is_damped d s) 1 0 + allowance y.spare ≤ allowance x.spare)
+  step_leads : (x y : State) (s : Side) → IsRouteStep es x s y → LeadsAcross m s x.sector y.sector × (cond (is_damped d s) 1 0 + allowance y.spare ≤ allowance x.spare)
   step_leads x y s step =
       let w = (are step.door).0 step.there in
       let r = at step.door.damped x.spare step.behind in (
@@ -84,7 +84,7 @@ module _ (m : Map) (d : List Bool) (es : List Door) (are : AreDoors m d es) wher
   leads_route a b k [] e le = e
   leads_route a b k (s ∷ ss) (c, leads, rest) le = at (λ j h. leads_route c b j ss rest h) (is_damped d s) k refl le
     where
-      step : (dm k : Bool) → is_damped d s ≡ dm → after_of (record { from = a; side = s; to = c; damped = dm }) k ≡ Some (record { sector = c; spare = k && not dm }) → IsStep es (record { sector = a; spare = k }) s (record { sector = c; spare = k && not dm })
+      step : (dm k : Bool) → is_damped d s ≡ dm → after_of (record { from = a; side = s; to = c; damped = dm }) k ≡ Some (record { sector = c; spare = k && not dm }) → IsRouteStep es (record { sector = a; spare = k }) s (record { sector = c; spare = k && not dm })
       step dm k e behind = record {
         door = record { from = a; side = s; to = c; damped = dm };
         there = (are (record { from = a; side = s; to = c; damped = dm })).1 (record { leads = leads; damped = sym e });
@@ -105,12 +105,12 @@ module _ (m : Map) (d : List Bool) (es : List Door) (are : AreDoors m d es) wher
   noise_route : (a b : ℕ) (ss : List Side) → IsNoisePath m d a b ss → IsRoute es b (record { sector = a; spare = true }) ss
   noise_route a b ss path = leads_route a b true ss path.lead path.damped
 
-  pub not_heard : (n a b : ℕ) (ds : List (Option ℕ)) → AreDistances es n b ds → distance_at ds (record { sector = a; spare = true }) ≡ None → ¬ Heard m d a b
+  pub not_heard : (n a b : ℕ) (ds : List (Option ℕ)) → AreDistances es n b ds → distance_at ds (record { sector = a; spare = true }) ≡ None → ¬ IsNoiseHeard m d a b
   not_heard n a b ds is none (ss, path) =
       let w = is.fewest (record { sector = a; spare = true }) ss (noise_route a b ss path) in
       none_some (distance_at ds (record { sector = a; spare = true })) w.0 none w.1
 
-  pub first_noise : (n a b k : ℕ) (ds : List (Option ℕ)) (ss : List Side) → AreDistances es n b ds → distance_at ds (record { sector = a; spare = true }) ≡ Some k → length ss ≡ k → IsFirst es b (record { sector = a; spare = true }) ss → IsFirstNoisePath m d a b ss
+  pub first_noise : (n a b k : ℕ) (ds : List (Option ℕ)) (ss : List Side) → AreDistances es n b ds → distance_at ds (record { sector = a; spare = true }) ≡ Some k → length ss ≡ k → IsFirstRoute es b (record { sector = a; spare = true }) ss → IsFirstNoisePath m d a b ss
   first_noise n a b k ds ss is at len first =
       let r = route_leads b (record { sector = a; spare = true }) ss first.route in record {
         path = record { lead = r.0; damped = r.1; alone = λ e. let w = is.fewest (record { sector = a; spare = true }) [] e in let same = same_Some k w.0 (sym at ∙ w.1) in let le = w.2 in empty ss (omega (arith, same, le, len)) };
@@ -153,8 +153,8 @@ count_back d (s ∷ ss) =
     sums : (x y z o w v : ℕ) → x ≡ y + z → z ≡ o + 0 → w ≡ o + v → y ≡ v → x ≡ w
     sums x y z o w v a b c e = omega (arith, a, b, c, e)
 
-pub heard_through : (m : Map) (d : List Bool) (a b : ℕ) (ss : List Side) → LeadThrough m a ss b → count_by (is_damped d) ss ≤ 1 → Heard m d a b
-heard_through m d a b ss lead le = elim (same_or_not a b) as (λ _. Heard m d a b) [
+pub heard_through : (m : Map) (d : List Bool) (a b : ℕ) (ss : List Side) → LeadThrough m a ss b → count_by (is_damped d) ss ≤ 1 → IsNoiseHeard m d a b
+heard_through m d a b ss lead le = elim (same_or_not a b) as (λ _. IsNoiseHeard m d a b) [
   | inl e ↦ ([], record { lead = e; damped = omega arith; alone = λ f. refl })
   | inr n ↦ (ss, record { lead = lead; damped = le; alone = λ e. absurd (n e) })
 ]

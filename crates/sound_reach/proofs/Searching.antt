@@ -10,10 +10,10 @@ use Rattle.sight_names.proofs.Lists.{get_of_contains}
 use Rattle.sound_reach.specs.declared.doors.Door.{Door}
 use Rattle.sound_reach.specs.declared.state.State.{State}
 use Rattle.sound_reach.specs.declared.search.Reached.{Reached}
-use Rattle.sound_reach.specs.State.{after_of, before_of, place_of}
-use Rattle.sound_reach.specs.Doors.{AreDoorsFrom, IsNet, turned, turned_side}
-use Rattle.sound_reach.specs.Routes.{AreDistances, IsRoute, IsStep, distance_at}
-use Rattle.sound_reach.specs.Search.{AreKept, IsBegun, IsNoted, IsReached, IsSearch}
+use Rattle.sound_reach.specs.State.{after_of, before_of, state_place}
+use Rattle.sound_reach.specs.Doors.{AreDoorsFrom, IsNet, turned_door, turned_side}
+use Rattle.sound_reach.specs.Routes.{AreDistances, IsRoute, IsRouteStep, distance_at}
+use Rattle.sound_reach.specs.Search.{AreKept, IsSearchBegun, IsStateNoted, IsStateReached, IsSoundSearch}
 use Rattle.sound_reach.proofs.Lookups.{below_place, distance_set, slice_of_replicate, none_some}
 use Rattle.math_base.proofs.Numbers.{below_or_last}
 use Rattle.math_base.proofs.Options.{none_is_not_some}
@@ -34,23 +34,23 @@ count_less ds i k h e =
     let f : ◌≡◌ {A = ℕ} (cond (is_none (slice_index_or ds i None)) 1 0) 1 = ap (λ (o : Option ℕ). cond (is_none o) 1 0) e in
     omega (arith, s, f)
 
-pushed_keeps : (ds : List (Option ℕ)) (x : State) (k : ℕ) → distance_at ds x ≡ None → place_of x < length ds → AreKept ds (set ds (place_of x) (Some k))
-pushed_keeps ds x k none lt y j e = elim (distance_set ds x y k lt) as (λ _. distance_at (set ds (place_of x) (Some k)) y ≡ Some j) [
+pushed_keeps : (ds : List (Option ℕ)) (x : State) (k : ℕ) → distance_at ds x ≡ None → state_place x < length ds → AreKept ds (set ds (state_place x) (Some k))
+pushed_keeps ds x k none lt y j e = elim (distance_set ds x y k lt) as (λ _. distance_at (set ds (state_place x) (Some k)) y ≡ Some j) [
   | inl f ↦ absurd (none_some (distance_at ds x) j none (subst (λ (z : State). distance_at ds z ≡ Some j) f.0 e))
   | inr f ↦ f ∙ e
 ]
 
-module _ (es : List Door) (b : ℕ) (ds : List (Option ℕ)) (queue : List Reached) (h : ℕ) (s : IsSearch es b ds queue h) (x : State) (k : ℕ) (next : IsNext es b queue h x k) (none : distance_at ds x ≡ None) (lt : place_of x < length ds) where
-  there : distance_at (set ds (place_of x) (Some k)) x ≡ Some k
-  there = get_or-set_same ds (place_of x) (Some k) None lt
+module _ (es : List Door) (b : ℕ) (ds : List (Option ℕ)) (queue : List Reached) (h : ℕ) (s : IsSoundSearch es b ds queue h) (x : State) (k : ℕ) (next : IsNext es b queue h x k) (none : distance_at ds x ≡ None) (lt : state_place x < length ds) where
+  there : distance_at (set ds (state_place x) (Some k)) x ≡ Some k
+  there = get_or-set_same ds (state_place x) (Some k) None lt
 
-  told : (i : ℕ) (q : Reached) → slice_get (queue ++ (record { state = x; distance = k }) ∷ []) i ≡ Some q → distance_at (set ds (place_of x) (Some k)) q.state ≡ Some q.distance
-  told i q e = elim (pushed_at queue _ q i e) as (λ _. distance_at (set ds (place_of x) (Some k)) q.state ≡ Some q.distance) [
+  told : (i : ℕ) (q : Reached) → slice_get (queue ++ (record { state = x; distance = k }) ∷ []) i ≡ Some q → distance_at (set ds (state_place x) (Some k)) q.state ≡ Some q.distance
+  told i q e = elim (pushed_at queue _ q i e) as (λ _. distance_at (set ds (state_place x) (Some k)) q.state ≡ Some q.distance) [
     | inl f ↦ pushed_keeps ds x k none lt q.state q.distance (s.told i q f)
-    | inr f ↦ subst (λ (p : Reached). distance_at (set ds (place_of x) (Some k)) p.state ≡ Some p.distance) f.1 there
+    | inr f ↦ subst (λ (p : Reached). distance_at (set ds (state_place x) (Some k)) p.state ≡ Some p.distance) f.1 there
   ]
 
-  queued : (y : State) (j : ℕ) → distance_at (set ds (place_of x) (Some k)) y ≡ Some j → (i : ℕ) × (slice_get (queue ++ (record { state = x; distance = k }) ∷ []) i ≡ Some (record { state = y; distance = j }))
+  queued : (y : State) (j : ℕ) → distance_at (set ds (state_place x) (Some k)) y ≡ Some j → (i : ℕ) × (slice_get (queue ++ (record { state = x; distance = k }) ∷ []) i ≡ Some (record { state = y; distance = j }))
   queued y j e = elim (distance_set ds x y k lt) as (λ _. (i : ℕ) × (slice_get (queue ++ (record { state = x; distance = k }) ∷ []) i ≡ Some (record { state = y; distance = j }))) [
     | inl f ↦ (length queue, get_pushed queue (record { state = x; distance = k }) ∙ ap Some (same f.0 (same_Some k j (sym f.1 ∙ e))))
     | inr f ↦ let w = s.queued y j (sym f ∙ e) in (w.0, get_before_pushed queue _ _ w.0 w.1)
@@ -86,8 +86,8 @@ module _ (es : List Door) (b : ℕ) (ds : List (Option ℕ)) (queue : List Reach
     | inl g ↦ let w = below i q f in let v = next.close p g in omega (arith, w, v)
   ]
 
-  closed : h ≤ length queue → (i : ℕ) (q : Reached) (y : State) (t : Side) → i < h → slice_get (queue ++ (record { state = x; distance = k }) ∷ []) i ≡ Some q → IsStep es y t q.state → (j : ℕ) × (distance_at (set ds (place_of x) (Some k)) y ≡ Some j) × (j ≤ q.distance + 1)
-  closed le i q y t less e step = elim (pushed_at queue _ q i e) as (λ _. (j : ℕ) × (distance_at (set ds (place_of x) (Some k)) y ≡ Some j) × (j ≤ q.distance + 1)) [
+  closed : h ≤ length queue → (i : ℕ) (q : Reached) (y : State) (t : Side) → i < h → slice_get (queue ++ (record { state = x; distance = k }) ∷ []) i ≡ Some q → IsRouteStep es y t q.state → (j : ℕ) × (distance_at (set ds (state_place x) (Some k)) y ≡ Some j) × (j ≤ q.distance + 1)
+  closed le i q y t less e step = elim (pushed_at queue _ q i e) as (λ _. (j : ℕ) × (distance_at (set ds (state_place x) (Some k)) y ≡ Some j) × (j ≤ q.distance + 1)) [
     | inl f ↦ let w = s.closed i q y t less f step in (w.0, pushed_keeps ds x k none lt y w.0 w.1, w.2)
     | inr f ↦ let v = f.0 in absurd (omega (arith, v, less, le))
   ]
@@ -98,7 +98,7 @@ module _ (es : List Door) (b : ℕ) (ds : List (Option ℕ)) (queue : List Reach
     | inr f ↦ let d = ap (λ (r : Reached). r.distance) f.1 in let v = f.0 in let w = next.small in omega (arith, d, v, w)
   ]
 
-  pub pushed : h ≤ length queue → IsSearch es b (set ds (place_of x) (Some k)) (queue ++ (record { state = x; distance = k }) ∷ []) h
+  pub pushed : h ≤ length queue → IsSoundSearch es b (set ds (state_place x) (Some k)) (queue ++ (record { state = x; distance = k }) ∷ []) h
   pushed le = record {
     told = told;
     queued = queued;
@@ -107,34 +107,34 @@ module _ (es : List Door) (b : ℕ) (ds : List (Option ℕ)) (queue : List Reach
     near = near;
     closed = closed le;
     small = small;
-    count = let c = count_less ds (place_of x) k lt none in let d = s.count in simp (length-append, length-set) (omega (arith, c, d));
+    count = let c = count_less ds (state_place x) k lt none in let d = s.count in simp (length-append, length-set) (omega (arith, c, d));
   }
 
-pub noted_keeps : (ds ds' : List (Option ℕ)) (queue queue' : List Reached) (x : State) (k : ℕ) → place_of x < length ds → IsNoted x k ds queue ds' queue' → AreKept ds ds'
+pub noted_keeps : (ds ds' : List (Option ℕ)) (queue queue' : List Reached) (x : State) (k : ℕ) → state_place x < length ds → IsStateNoted x k ds queue ds' queue' → AreKept ds ds'
 noted_keeps ds ds' queue queue' x k lt (inl n) y j e = subst (λ (z : List (Option ℕ)). distance_at z y ≡ Some j) (sym n.1) (pushed_keeps ds x k n.0 lt y j e)
 noted_keeps ds ds' queue queue' x k lt (inr n) y j e = subst (λ (z : List (Option ℕ)). distance_at z y ≡ Some j) (sym n.1) e
 
-pub noted_reached : (ds ds' : List (Option ℕ)) (queue queue' : List Reached) (x : State) (k : ℕ) → place_of x < length ds → IsNoted x k ds queue ds' queue' → IsReached ds' x
-noted_reached ds ds' queue queue' x k lt (inl n) = (k, subst (λ (z : List (Option ℕ)). distance_at z x ≡ Some k) (sym n.1) (get_or-set_same ds (place_of x) (Some k) None lt))
-noted_reached ds ds' queue queue' x k lt (inr n) = subst (λ (z : List (Option ℕ)). IsReached z x) (sym n.1) n.0
+pub noted_reached : (ds ds' : List (Option ℕ)) (queue queue' : List Reached) (x : State) (k : ℕ) → state_place x < length ds → IsStateNoted x k ds queue ds' queue' → IsStateReached ds' x
+noted_reached ds ds' queue queue' x k lt (inl n) = (k, subst (λ (z : List (Option ℕ)). distance_at z x ≡ Some k) (sym n.1) (get_or-set_same ds (state_place x) (Some k) None lt))
+noted_reached ds ds' queue queue' x k lt (inr n) = subst (λ (z : List (Option ℕ)). IsStateReached z x) (sym n.1) n.0
 
-pub noted_length : (ds ds' : List (Option ℕ)) (queue queue' : List Reached) (x : State) (k : ℕ) → IsNoted x k ds queue ds' queue' → length ds' ≡ length ds
-noted_length ds ds' queue queue' x k (inl n) = ap length n.1 ∙ length-set ds (place_of x) (Some k)
+pub noted_length : (ds ds' : List (Option ℕ)) (queue queue' : List Reached) (x : State) (k : ℕ) → IsStateNoted x k ds queue ds' queue' → length ds' ≡ length ds
+noted_length ds ds' queue queue' x k (inl n) = ap length n.1 ∙ length-set ds (state_place x) (Some k)
 noted_length ds ds' queue queue' x k (inr n) = ap length n.1
 
-pub noted_queue : (ds ds' : List (Option ℕ)) (queue queue' : List Reached) (x : State) (k i : ℕ) (q : Reached) → IsNoted x k ds queue ds' queue' → slice_get queue i ≡ Some q → slice_get queue' i ≡ Some q
+pub noted_queue : (ds ds' : List (Option ℕ)) (queue queue' : List Reached) (x : State) (k i : ℕ) (q : Reached) → IsStateNoted x k ds queue ds' queue' → slice_get queue i ≡ Some q → slice_get queue' i ≡ Some q
 noted_queue ds ds' queue queue' x k i q (inl n) e = subst (λ (z : List Reached). slice_get z i ≡ Some q) (sym n.2) (get_before_pushed queue _ q i e)
 noted_queue ds ds' queue queue' x k i q (inr n) e = subst (λ (z : List Reached). slice_get z i ≡ Some q) (sym n.2) e
 
-pub noted_search : (es : List Door) (b : ℕ) (ds ds' : List (Option ℕ)) (queue queue' : List Reached) (h : ℕ) (x : State) (k : ℕ) → IsSearch es b ds queue h → IsNext es b queue h x k → place_of x < length ds → h ≤ length queue → IsNoted x k ds queue ds' queue' → IsSearch es b ds' queue' h
+pub noted_search : (es : List Door) (b : ℕ) (ds ds' : List (Option ℕ)) (queue queue' : List Reached) (h : ℕ) (x : State) (k : ℕ) → IsSoundSearch es b ds queue h → IsNext es b queue h x k → state_place x < length ds → h ≤ length queue → IsStateNoted x k ds queue ds' queue' → IsSoundSearch es b ds' queue' h
 noted_search es b ds ds' queue queue' h x k s next lt le (inl n) =
-    subst (λ (z : List (Option ℕ)). IsSearch es b z queue' h) (sym n.1) (subst (λ (z : List Reached). IsSearch es b (set ds (place_of x) (Some k)) z h) (sym n.2) (pushed es b ds queue h s x k next n.0 lt le))
+    subst (λ (z : List (Option ℕ)). IsSoundSearch es b z queue' h) (sym n.1) (subst (λ (z : List Reached). IsSoundSearch es b (set ds (state_place x) (Some k)) z h) (sym n.2) (pushed es b ds queue h s x k next n.0 lt le))
 noted_search es b ds ds' queue queue' h x k s next lt le (inr n) =
-    subst (λ (z : List (Option ℕ)). IsSearch es b z queue' h) (sym n.1) (subst (λ (z : List Reached). IsSearch es b ds z h) (sym n.2) s)
+    subst (λ (z : List (Option ℕ)). IsSoundSearch es b z queue' h) (sym n.1) (subst (λ (z : List Reached). IsSoundSearch es b ds z h) (sym n.2) s)
 
 -- ---- one step before the state at the head
 
-pub turn_in : (e : Door) (spare : Bool) (x : State) → before_of e spare ≡ Some x → after_of (turned e) x.spare ≡ Some (record { sector = e.from; spare = spare })
+pub turn_in : (e : Door) (spare : Bool) (x : State) → before_of e spare ≡ Some x → after_of (turned_door e) x.spare ≡ Some (record { sector = e.from; spare = spare })
 turn_in e spare x h = at e.damped spare h
   where
     at : (damped spare : Bool) → before_of (record { from = e.from; side = e.side; to = e.to; damped = damped }) spare ≡ Some x
@@ -162,7 +162,7 @@ after_sector e spare x h = at e.damped spare h
     at false true h = sym (ap (λ (y : State). y.sector) (same_Some (record { sector = e.to; spare = true }) x h))
     at false false h = sym (ap (λ (y : State). y.sector) (same_Some (record { sector = e.to; spare = false }) x h))
 
-turn_out : (e : Door) (spare : Bool) (y : State) → after_of e spare ≡ Some y → before_of (turned e) y.spare ≡ Some (record { sector = e.from; spare = spare })
+turn_out : (e : Door) (spare : Bool) (y : State) → after_of e spare ≡ Some y → before_of (turned_door e) y.spare ≡ Some (record { sector = e.from; spare = spare })
 turn_out e spare y h = at e.damped spare h
   where
     at : (damped spare : Bool) → after_of (record { from = e.from; side = e.side; to = e.to; damped = damped }) spare ≡ Some y
@@ -173,7 +173,7 @@ turn_out e spare y h = at e.damped spare h
     at false false h = let p = ap (λ (z : State). z.spare) (same_Some (record { sector = e.to; spare = false }) y h) in subst (λ (c : Bool). before_of (record { from = e.to; side = turned_side e.side; to = e.from; damped = false }) c ≡ Some (record { sector = e.from; spare = false })) p refl
 
 -- the state before a door of the head's sector may be taken up
-pub next_before : (es : List Door) → IsNet es → (b : ℕ) (ds : List (Option ℕ)) (queue : List Reached) (h : ℕ) (p : Reached) (e : Door) (x : State) → IsSearch es b ds queue h → slice_get queue h ≡ Some p → Contains es e → e.from ≡ p.state.sector → before_of e p.state.spare ≡ Some x → IsNext es b queue h x (p.distance + 1)
+pub next_before : (es : List Door) → IsNet es → (b : ℕ) (ds : List (Option ℕ)) (queue : List Reached) (h : ℕ) (p : Reached) (e : Door) (x : State) → IsSoundSearch es b ds queue h → slice_get queue h ≡ Some p → Contains es e → e.from ≡ p.state.sector → before_of e p.state.spare ≡ Some x → IsNext es b queue h x (p.distance + 1)
 next_before es net b ds queue h p e x s at there from before = record {
   route = let r = s.routes h p at in (turned_side e.side ∷ r.0, (p.state, step, r.1), longer (length r.0) p.distance r.2);
   above = λ i q f. s.near i p q at f;
@@ -184,19 +184,19 @@ next_before es net b ds queue h p e x s at there from before = record {
     longer : (n k : ℕ) → n ≡ k → suc n ≡ k + 1
     longer n k e = omega (arith, e)
 
-    behind : after_of (turned e) x.spare ≡ Some p.state
+    behind : after_of (turned_door e) x.spare ≡ Some p.state
     behind = turn_in e p.state.spare x before ∙ ap (λ (c : ℕ). Some (let y : State = record { sector = c; spare = p.state.spare } in y)) from
 
-    step : IsStep es x (turned_side e.side) p.state
-    step = record { door = turned e; there = net.both e there; from = sym (before_sector e p.state.spare x before); side = refl; behind = behind }
+    step : IsRouteStep es x (turned_side e.side) p.state
+    step = record { door = turned_door e; there = net.both e there; from = sym (before_sector e p.state.spare x before); side = refl; behind = behind }
 
 -- each state one step before the head is one before a door of its sector
-pub step_before : (es : List Door) → IsNet es → (x y : State) (t : Side) → IsStep es x t y → (e : Door) × Contains es e × (e.from ≡ y.sector) × (before_of e y.spare ≡ Some x)
-step_before es net x y t step = (turned step.door, net.both step.door step.there, sym (after_sector step.door x.spare y step.behind), turn_out step.door x.spare y step.behind ∙ ap (λ (c : ℕ). Some (let z : State = record { sector = c; spare = x.spare } in z)) step.from)
+pub step_before : (es : List Door) → IsNet es → (x y : State) (t : Side) → IsRouteStep es x t y → (e : Door) × Contains es e × (e.from ≡ y.sector) × (before_of e y.spare ≡ Some x)
+step_before es net x y t step = (turned_door step.door, net.both step.door step.there, sym (after_sector step.door x.spare y step.behind), turn_out step.door x.spare y step.behind ∙ ap (λ (c : ℕ). Some (let z : State = record { sector = c; spare = x.spare } in z)) step.from)
 
 -- ---- the head moves on
 
-pub advanced : (es : List Door) (b : ℕ) (ds : List (Option ℕ)) (queue : List Reached) (h : ℕ) (p : Reached) → IsSearch es b ds queue h → slice_get queue h ≡ Some p → ((x : State) (t : Side) → IsStep es x t p.state → IsReached ds x) → IsSearch es b ds queue (h + 1)
+pub advanced : (es : List Door) (b : ℕ) (ds : List (Option ℕ)) (queue : List Reached) (h : ℕ) (p : Reached) → IsSoundSearch es b ds queue h → slice_get queue h ≡ Some p → ((x : State) (t : Side) → IsRouteStep es x t p.state → IsStateReached ds x) → IsSoundSearch es b ds queue (h + 1)
 advanced es b ds queue h p s at all = record {
   told = s.told;
   queued = s.queued;
@@ -206,7 +206,7 @@ advanced es b ds queue h p s at all = record {
   closed = λ i q x t lt e step. elim (below_or_last i h lt) as (λ _. (k : ℕ) × (distance_at ds x ≡ Some k) × (k ≤ q.distance + 1)) [
     | inl less ↦ s.closed i q x t less e step
     | inr same ↦ let f : p ≡ q = same_Some p q (sym at ∙ ap (slice_get queue) (sym same) ∙ e) in
-        let r = all x t (subst (λ (c : Reached). IsStep es x t c.state) (sym f) step) in
+        let r = all x t (subst (λ (c : Reached). IsRouteStep es x t c.state) (sym f) step) in
         let w = s.queued x r.0 r.1 in
         let v = s.near w.0 p (record { state = x; distance = r.0 }) at w.1 in
         let d = ap (λ (c : Reached). c.distance) f in
@@ -218,10 +218,10 @@ advanced es b ds queue h p s at all = record {
 
 -- ---- the beginning and the end
 
-pub empty_search : (es : List Door) (b n : ℕ) (ds : List (Option ℕ)) → ds ≡ replicate n None → IsSearch es b ds [] 0
+pub empty_search : (es : List Door) (b n : ℕ) (ds : List (Option ℕ)) → ds ≡ replicate n None → IsSoundSearch es b ds [] 0
 empty_search es b n ds e = record {
   told = λ i q f. absurd (no q i f);
-  queued = λ x k f. absurd (none_some (distance_at ds x) k (ap (λ (z : List (Option ℕ)). distance_at z x) e ∙ slice_of_replicate n (place_of x)) f);
+  queued = λ x k f. absurd (none_some (distance_at ds x) k (ap (λ (z : List (Option ℕ)). distance_at z x) e ∙ slice_of_replicate n (state_place x)) f);
   routes = λ i q f. absurd (no q i f);
   ascend = λ i j p q le f g. absurd (no p i f);
   near = λ i p q f g. absurd (no q i g);
@@ -237,7 +237,7 @@ empty_search es b n ds e = record {
     all_none zero = refl
     all_none (suc n) = let w = all_none n in let s = sum_by-cons (λ (o : Option ℕ). cond (is_none o) 1 0) None (replicate n None) in omega (arith, w, s)
 
-first_above : (x : State) (ds ds' : List (Option ℕ)) (queue queue' : List Reached) → queue ≡ [] → IsNoted x 0 ds queue ds' queue' → (i : ℕ) (q : Reached) → slice_get queue' i ≡ Some q → q.distance ≤ 0
+first_above : (x : State) (ds ds' : List (Option ℕ)) (queue queue' : List Reached) → queue ≡ [] → IsStateNoted x 0 ds queue ds' queue' → (i : ℕ) (q : Reached) → slice_get queue' i ≡ Some q → q.distance ≤ 0
 first_above x ds ds' queue queue' e (inl n) i q f = elim (pushed_at [] _ q i (ap (λ (z : List Reached). slice_get z i) (ap (λ (z : List Reached). z ++ (record { state = x; distance = 0 }) ∷ []) (sym e) ∙ sym n.2) ∙ f)) as (λ _. q.distance ≤ 0) [
   | inl g ↦ absurd (none_there i q g)
   | inr g ↦ let d = ap (λ (r : Reached). r.distance) g.1 in omega (arith, d)
@@ -254,7 +254,7 @@ pub next_begun : (es : List Door) (b : ℕ) (queue : List Reached) (x : State) �
 next_begun es b queue x e above = record { route = ([], e, refl); above = above; close = λ q f. omega arith; small = omega arith }
 
 pub begun_search : (es : List Door) (b n : ℕ) (ds ds' ds'' : List (Option ℕ)) (queue queue' queue'' : List Reached) → b < n → ds ≡ replicate (n * 2) None → queue ≡ []
-    → IsNoted (record { sector = b; spare = false }) 0 ds queue ds' queue' → IsNoted (record { sector = b; spare = true }) 0 ds' queue' ds'' queue'' → IsSearch es b ds'' queue'' 0
+    → IsStateNoted (record { sector = b; spare = false }) 0 ds queue ds' queue' → IsStateNoted (record { sector = b; spare = true }) 0 ds' queue' ds'' queue'' → IsSoundSearch es b ds'' queue'' 0
 begun_search es b n ds ds' ds'' queue queue' queue'' lt all none first second =
     let x : State = record { sector = b; spare = false } in
     let y : State = record { sector = b; spare = true } in
@@ -262,8 +262,8 @@ begun_search es b n ds ds' ds'' queue queue' queue'' lt all none first second =
     let len2 = noted_length ds ds' queue queue' x 0 first in
     let inside = below_place x n lt in
     let inside2 = below_place y n lt in
-    let one = noted_search es b ds ds' queue queue' 0 x 0 (subst (λ (z : List Reached). IsSearch es b ds z 0) (sym none) (empty_search es b (n * 2) ds all)) (next_begun es b queue x refl (λ i q f. absurd (nothing i q (ap (λ (z : List Reached). slice_get z i) (sym none) ∙ f)))) (fits (place_of x) (n * 2) (length ds) inside len) (omega arith) first in
-    noted_search es b ds' ds'' queue' queue'' 0 y 0 one (next_begun es b queue' y refl (first_above x ds ds' queue queue' none first)) (fits (place_of y) (n * 2) (length ds') inside2 (len2 ∙ len)) (omega arith) second
+    let one = noted_search es b ds ds' queue queue' 0 x 0 (subst (λ (z : List Reached). IsSoundSearch es b ds z 0) (sym none) (empty_search es b (n * 2) ds all)) (next_begun es b queue x refl (λ i q f. absurd (nothing i q (ap (λ (z : List Reached). slice_get z i) (sym none) ∙ f)))) (fits (state_place x) (n * 2) (length ds) inside len) (omega arith) first in
+    noted_search es b ds' ds'' queue' queue'' 0 y 0 one (next_begun es b queue' y refl (first_above x ds ds' queue queue' none first)) (fits (state_place y) (n * 2) (length ds') inside2 (len2 ∙ len)) (omega arith) second
   where
     nothing : (i : ℕ) (q : Reached) → slice_get (let none : List Reached = [] in none) i ≡ Some q → ⊥
     nothing i q f = cc
@@ -271,7 +271,7 @@ begun_search es b n ds ds' ds'' queue queue' queue'' lt all none first second =
     fits : (p k l : ℕ) → p < k → l ≡ k → p < l
     fits p k l a e = omega (arith, a, e)
 
-fewest : (es : List Door) (b : ℕ) (ds : List (Option ℕ)) (queue : List Reached) (h : ℕ) → IsSearch es b ds queue h → IsBegun b ds → length queue ≤ h → (x : State) (ss : List Side) → IsRoute es b x ss → (k : ℕ) × (distance_at ds x ≡ Some k) × (k ≤ length ss)
+fewest : (es : List Door) (b : ℕ) (ds : List (Option ℕ)) (queue : List Reached) (h : ℕ) → IsSoundSearch es b ds queue h → IsSearchBegun b ds → length queue ≤ h → (x : State) (ss : List Side) → IsRoute es b x ss → (k : ℕ) × (distance_at ds x ≡ Some k) × (k ≤ length ss)
 fewest es b ds queue h s begun past x [] e = (0, begun x e, omega arith)
 fewest es b ds queue h s begun past x (t ∷ ss) (y, step, route) =
     let r = fewest es b ds queue h s begun past y ss route in
@@ -285,7 +285,7 @@ fewest es b ds queue h s begun past x (t ∷ ss) (y, step, route) =
     longer : (n j k : ℕ) → j ≤ n → k ≤ j + 1 → k ≤ suc n
     longer n j k a b = omega (arith, a, b)
 
-pub distances_found : (es : List Door) (n b : ℕ) (ds : List (Option ℕ)) (queue : List Reached) (h : ℕ) → length ds ≡ n * 2 → IsSearch es b ds queue h → IsBegun b ds → length queue ≤ h → AreDistances es n b ds
+pub distances_found : (es : List Door) (n b : ℕ) (ds : List (Option ℕ)) (queue : List Reached) (h : ℕ) → length ds ≡ n * 2 → IsSoundSearch es b ds queue h → IsSearchBegun b ds → length queue ≤ h → AreDistances es n b ds
 distances_found es n b ds queue h len s begun past = record {
   len = len;
   routes = λ x k e. let w = s.queued x k e in s.routes w.0 (record { state = x; distance = k }) w.1;
@@ -296,13 +296,13 @@ distances_found es n b ds queue h len s begun past = record {
 
 -- what is known when the doors before place n were passed
 pub record IsSettling (es : List Door) (b : ℕ) (ds ds' : List (Option ℕ)) (queue : List Reached) (h : ℕ) (p : Reached) (found : List Door) (n : ℕ) : Type 0 where
-  pub search : IsSearch es b ds' queue h
+  pub search : IsSoundSearch es b ds' queue h
   pub len : length ds' ≡ length ds
   pub kept : AreKept ds ds'
   pub at : slice_get queue h ≡ Some p
-  pub reached : (k : ℕ) (e : Door) (x : State) → k < n → slice_get found k ≡ Some e → before_of e p.state.spare ≡ Some x → IsReached ds' x
+  pub reached : (k : ℕ) (e : Door) (x : State) → k < n → slice_get found k ≡ Some e → before_of e p.state.spare ≡ Some x → IsStateReached ds' x
 
-pub settling_begun : (es : List Door) (b : ℕ) (ds : List (Option ℕ)) (queue : List Reached) (h : ℕ) (p : Reached) (found : List Door) → IsSearch es b ds queue h → slice_get queue h ≡ Some p → IsSettling es b ds ds queue h p found 0
+pub settling_begun : (es : List Door) (b : ℕ) (ds : List (Option ℕ)) (queue : List Reached) (h : ℕ) (p : Reached) (found : List Door) → IsSoundSearch es b ds queue h → slice_get queue h ≡ Some p → IsSettling es b ds ds queue h p found 0
 settling_begun es b ds queue h p found s at = record { search = s; len = refl; kept = λ x k e. e; at = at; reached = λ k e x lt. absurd (omega arith) }
 
 pub settling_past : (es : List Door) (b : ℕ) (ds ds' : List (Option ℕ)) (queue : List Reached) (h : ℕ) (p : Reached) (found : List Door) (n : ℕ) (e : Door) → slice_get found n ≡ Some e → before_of e p.state.spare ≡ None
@@ -312,14 +312,14 @@ settling_past es b ds ds' queue h p found n e got none w = record {
   len = w.len;
   kept = w.kept;
   at = w.at;
-  reached = λ k f x lt there before. elim (below_or_last k n lt) as (λ _. IsReached ds' x) [
+  reached = λ k f x lt there before. elim (below_or_last k n lt) as (λ _. IsStateReached ds' x) [
     | inl less ↦ w.reached k f x less there before
     | inr same ↦ absurd (none_some (before_of e p.state.spare) x none (ap (λ (d : Door). before_of d p.state.spare) (same_Some e f (sym got ∙ ap (slice_get found) (sym same) ∙ there)) ∙ before))
   ];
 }
 
 pub settling_noted : (es : List Door) → IsNet es → (b : ℕ) (ds ds' ds'' : List (Option ℕ)) (queue queue' : List Reached) (h : ℕ) (p : Reached) (found : List Door) (n : ℕ) (e : Door) (x : State)
-    → slice_get found n ≡ Some e → Contains es e → e.from ≡ p.state.sector → before_of e p.state.spare ≡ Some x → place_of x < length ds' → IsNoted x (p.distance + 1) ds' queue ds'' queue'
+    → slice_get found n ≡ Some e → Contains es e → e.from ≡ p.state.sector → before_of e p.state.spare ≡ Some x → state_place x < length ds' → IsStateNoted x (p.distance + 1) ds' queue ds'' queue'
     → IsSettling es b ds ds' queue h p found n → IsSettling es b ds ds'' queue' h p found (n + 1)
 settling_noted es net b ds ds' ds'' queue queue' h p found n e x got there from before lt noted w =
     let keeps = noted_keeps ds' ds'' queue queue' x (p.distance + 1) lt noted in
@@ -329,15 +329,15 @@ settling_noted es net b ds ds' ds'' queue queue' h p found n e x got there from 
       len = noted_length ds' ds'' queue queue' x (p.distance + 1) noted ∙ w.len;
       kept = λ y k f. keeps y k (w.kept y k f);
       at = noted_queue ds' ds'' queue queue' x (p.distance + 1) h p noted w.at;
-      reached = λ k f y less there before2. elim (below_or_last k n less) as (λ _. IsReached ds'' y) [
+      reached = λ k f y less there before2. elim (below_or_last k n less) as (λ _. IsStateReached ds'' y) [
         | inl l ↦ let r = w.reached k f y l there before2 in (r.0, keeps y r.0 r.1)
         | inr same ↦ let q : e ≡ f = same_Some e f (sym got ∙ ap (slice_get found) (sym same) ∙ there) in
             let z = same_Some x y (sym before ∙ ap (λ (d : Door). before_of d p.state.spare) q ∙ before2) in
-            subst (IsReached ds'') z (noted_reached ds' ds'' queue queue' x (p.distance + 1) lt noted)
+            subst (IsStateReached ds'') z (noted_reached ds' ds'' queue queue' x (p.distance + 1) lt noted)
       ];
     }
 
-pub all_settled : (es : List Door) → IsNet es → (b : ℕ) (ds ds' : List (Option ℕ)) (queue : List Reached) (h : ℕ) (p : Reached) (found : List Door) (n : ℕ) → AreDoorsFrom es p.state.sector found → length found ≤ n → IsSettling es b ds ds' queue h p found n → IsSearch es b ds' queue (h + 1)
+pub all_settled : (es : List Door) → IsNet es → (b : ℕ) (ds ds' : List (Option ℕ)) (queue : List Reached) (h : ℕ) (p : Reached) (found : List Door) (n : ℕ) → AreDoorsFrom es p.state.sector found → length found ≤ n → IsSettling es b ds ds' queue h p found n → IsSoundSearch es b ds' queue (h + 1)
 all_settled es net b ds ds' queue h p found n from past w = advanced es b ds' queue h p w.search w.at (λ x t step.
     let e = step_before es net x p.state t step in
     let c = (from e.0).1 (e.1, e.2) in

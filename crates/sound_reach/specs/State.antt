@@ -4,8 +4,8 @@ use Rattle.sound_reach.specs.declared.state.State.{State}
 use Rattle.sound_reach.specs.declared.doors.Door.{Door}
 
 -- two places for each sector
-abbrev pub place_of : State → ℕ
-place_of x = x.sector * 2 + (if x.spare then 1 else 0)
+abbrev pub state_place : State → ℕ
+state_place x = x.sector * 2 + (if x.spare then 1 else 0)
 
 -- through the door, which takes the spare line if it is one that blocks sound
 abbrev pub after_of : Door → Bool → Option State

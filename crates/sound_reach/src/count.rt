@@ -3,7 +3,7 @@
 ghost use Rattle.std.specs.Prelude.{◌≡◌, ◌+◌, ◌*◌, ◌<◌, IfOk, length};
 ghost use Rattle.sight_names.specs.Map.{map_of};
 ghost use Rattle.sight_names.specs.Noise.{AreHeardCounts};
-ghost use Rattle.sound_reach.specs.Counts.{AreFilled, AreRows, is_near};
+ghost use Rattle.sound_reach.specs.Counts.{AreFilled, AreRows, is_heard_near};
 
 use crate::doors::Doors;
 use crate::search::distances_to;
@@ -21,7 +21,7 @@ pub struct Heard {
 /// Whether a distance is known from this sector, with or without a line to spare.
 fn is_near_at(distances: &[Option<u32>], sector: u16, spare: bool) -> bool
     requires { sector * 2 + 1 < length distances.now }
-    ensures { result ≡ is_near distances.now spare sector }
+    ensures { result ≡ is_heard_near distances.now spare sector }
 {
     distances[place(State { sector, spare })].is_some()
 }

@@ -4,7 +4,7 @@ ghost use Rattle.std.specs.Prelude.{◌≡◌, ◌+◌, ◌<◌, ◌≤◌, IfOk
 ghost use Rattle.std.specs.List.Sorted.{IsPermutation, IsNonDecreasingBy};
 ghost use Rattle.sight_names.specs.Map.{map_of};
 ghost use Rattle.sound_reach.specs.declared.doors.Door.{Door};
-ghost use Rattle.sound_reach.specs.Doors.{AreAdded, AreDoors, AreDoorsFrom, AreStarts, IsIndexed, IsStart};
+ghost use Rattle.sound_reach.specs.Doors.{AreDoorsAdded, AreDoors, AreDoorsFrom, AreDoorStarts, AreDoorsIndexed, IsDoorStart};
 
 use sight_names::{Line, Memory, Plan, Side};
 use std::alloc::Global;
@@ -29,7 +29,7 @@ pub struct Doors {
 
 /// Adds the doors at the two sides of the line, if it is passable.
 fn add_doors(doors: &mut Vec<Door>, line: u16, entry: Line, damped: bool) -> Result<(), Memory>
-    ensures { OnOk result (AreAdded line entry damped doors.old.items doors.new.items) }
+    ensures { OnOk result (AreDoorsAdded line entry damped doors.old.items doors.new.items) }
 {
     if entry.solid {
         return Ok(());
@@ -81,7 +81,7 @@ fn in_order(mut doors: Vec<Door>) -> Result<Vec<Door>, Memory>
 /// The place of the first door from this sector or a later one.
 fn start_of(doors: &[Door], sector: u32) -> usize
     requires { IsNonDecreasingBy (λ (e : Door). e.from) doors.now }
-    ensures { IsStart doors.now sector result }
+    ensures { IsDoorStart doors.now sector result }
 {
     doors.partition_point(|door| (door.from as u32) < sector)
 }
@@ -90,7 +90,7 @@ fn start_of(doors: &[Door], sector: u32) -> usize
 fn starts_of(alloc: Global, doors: &[Door], sectors: u16) -> Result<Vec<usize>, Memory>
     requires { IsNonDecreasingBy (λ (e : Door). e.from) doors.now }
     ensures len { IfOk result (λ v. length v.items ≡ sectors + 1) }
-    ensures starts { IfOk result (λ v. AreStarts doors.now v.items) }
+    ensures starts { IfOk result (λ v. AreDoorStarts doors.now v.items) }
 {
     let mut starts = Vec::new(alloc);
     for sector in 0..sectors as u32 + 1 {
@@ -112,7 +112,7 @@ impl Doors {
     /// The doors of the plan.
     pub fn of(alloc: Global, plan: &Plan, dampers: &[bool]) -> Result<Doors, Memory>
         requires { length dampers.now ≡ length plan.now.lines }
-        ensures indexed { IfOk result IsIndexed }
+        ensures indexed { IfOk result AreDoorsIndexed }
         ensures sectors { IfOk result (λ ds. ds.sectors ≡ plan.now.sectors) }
         ensures doors { IfOk result (λ ds. AreDoors (map_of plan.now) dampers.now ds.doors.items) }
     {
@@ -127,7 +127,7 @@ impl Doors {
 
     /// The doors from this sector.
     pub fn at(&self, sector: u16) -> &[Door]
-        requires indexed { IsIndexed self.now }
+        requires indexed { AreDoorsIndexed self.now }
         requires within { sector < self.now.sectors }
         ensures { AreDoorsFrom self.now.doors.items sector result.now }
     {

@@ -3,11 +3,11 @@
 ghost use Rattle.std.specs.Prelude.{◌≡◌, ◌*◌, ◌<◌, ◌+◌, ◌↔◌, Contains, Some, IfOk, IsTrue, MatchOption, length};
 ghost use Rattle.sight_names.specs.Found.{SideBefore};
 ghost use Rattle.sight_names.specs.Map.{map_of};
-ghost use Rattle.sight_names.specs.Noise.{Heard, IsFirstNoisePath};
+ghost use Rattle.sight_names.specs.Noise.{IsNoiseHeard, IsFirstNoisePath};
 ghost use Rattle.sound_reach.specs.declared.doors.Door.{Door};
-ghost use Rattle.sound_reach.specs.Doors.{IsIndexed};
+ghost use Rattle.sound_reach.specs.Doors.{AreDoorsIndexed};
 ghost use Rattle.sound_reach.specs.Routes.{AreDistances, distance_at};
-ghost use Rattle.sound_reach.specs.Steps.{IsFirst, IsLeastStep, IsLesser, IsStepThrough};
+ghost use Rattle.sound_reach.specs.Steps.{IsFirstRoute, IsLeastStep, IsLesser, IsStepThrough};
 
 use crate::doors::{Door, Doors};
 use crate::search::distances_to;
@@ -83,11 +83,11 @@ fn path_from(
     from: State,
     distance: u32,
 ) -> Result<Vec<Side>, Memory>
-    requires indexed { IsIndexed doors.now }
+    requires indexed { AreDoorsIndexed doors.now }
     requires distances { AreDistances doors.now.doors.items doors.now.sectors to distances.now }
     requires from { distance_at distances.now from ≡ Some distance }
     ensures len { IfOk result (λ v. length v.items ≡ distance) }
-    ensures first { IfOk result (λ v. IsFirst doors.now.doors.items to from v.items) }
+    ensures first { IfOk result (λ v. IsFirstRoute doors.now.doors.items to from v.items) }
 {
     let mut sides = Vec::new(alloc);
     let mut at = from;
@@ -119,7 +119,7 @@ pub fn noise(
     requires each { length dampers.now ≡ length plan.now.lines }
     requires first { a < plan.now.sectors }
     requires second { b < plan.now.sectors }
-    ensures { IfOk result (λ path. MatchOption path (¬ Heard (map_of plan.now) dampers.now a b) (λ v. IsFirstNoisePath (map_of plan.now) dampers.now a b v.items)) }
+    ensures { IfOk result (λ path. MatchOption path (¬ IsNoiseHeard (map_of plan.now) dampers.now a b) (λ v. IsFirstNoisePath (map_of plan.now) dampers.now a b v.items)) }
 {
     let doors = Doors::of(alloc, plan, dampers)?;
     let distances = distances_to(alloc, &doors, b)?;

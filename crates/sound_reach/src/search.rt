@@ -2,10 +2,10 @@
 
 ghost use Rattle.std.specs.Prelude.{◌≡◌, ◌+◌, ◌*◌, ◌<◌, IfOk, OnOk, List, length};
 ghost use Rattle.sound_reach.specs.declared.doors.Door.{Door};
-ghost use Rattle.sound_reach.specs.State.{place_of};
-ghost use Rattle.sound_reach.specs.Doors.{IsIndexed};
+ghost use Rattle.sound_reach.specs.State.{state_place};
+ghost use Rattle.sound_reach.specs.Doors.{AreDoorsIndexed};
 ghost use Rattle.sound_reach.specs.Routes.{AreDistances};
-ghost use Rattle.sound_reach.specs.Search.{AreKept, IsBegun, IsNoted, IsSearch};
+ghost use Rattle.sound_reach.specs.Search.{AreKept, IsSearchBegun, IsStateNoted, IsSoundSearch};
 
 use crate::doors::Doors;
 use crate::state::{State, before, place};
@@ -30,9 +30,9 @@ pub struct Search {
 impl Search {
     /// Notes that so few sides lead from the state, unless it was reached before.
     fn note(&mut self, state: State, distance: u32) -> Result<(), Memory>
-        requires { place_of state < length self.old.distances.items }
+        requires { state_place state < length self.old.distances.items }
         ensures to { self.new.to ≡ self.old.to }
-        ensures noted { OnOk result (IsNoted state distance self.old.distances.items self.old.queue.items self.new.distances.items self.new.queue.items) }
+        ensures noted { OnOk result (IsStateNoted state distance self.old.distances.items self.old.queue.items self.new.distances.items self.new.queue.items) }
     {
         let at = place(state);
         if self.distances[at].is_none() {
@@ -44,14 +44,14 @@ impl Search {
 
     /// Notes all states from which one step leads to the one at this place of the queue.
     fn settle(&mut self, doors: &Doors, head: usize) -> Result<(), Memory>
-        requires indexed { IsIndexed doors.now }
+        requires indexed { AreDoorsIndexed doors.now }
         requires len { length self.old.distances.items ≡ doors.now.sectors * 2 }
         requires head { head < length self.old.queue.items }
-        requires search { IsSearch doors.now.doors.items self.old.to self.old.distances.items self.old.queue.items head }
+        requires search { IsSoundSearch doors.now.doors.items self.old.to self.old.distances.items self.old.queue.items head }
         ensures to { self.new.to ≡ self.old.to }
         ensures len { OnOk result (length self.new.distances.items ≡ length self.old.distances.items) }
         ensures kept { OnOk result (AreKept self.old.distances.items self.new.distances.items) }
-        ensures search { OnOk result (IsSearch doors.now.doors.items self.old.to self.new.distances.items self.new.queue.items (head + 1)) }
+        ensures search { OnOk result (IsSoundSearch doors.now.doors.items self.old.to self.new.distances.items self.new.queue.items (head + 1)) }
     {
         let reached = self.queue[head];
         for door in doors.at(reached.state.sector) {
@@ -68,8 +68,8 @@ fn begun(alloc: Global, sectors: u16, to: u16) -> Result<Search, Memory>
     requires { to < sectors }
     ensures to { IfOk result (λ s. s.to ≡ to) }
     ensures len { IfOk result (λ s. length s.distances.items ≡ sectors * 2) }
-    ensures begun { IfOk result (λ s. IsBegun to s.distances.items) }
-    ensures search { IfOk result (λ s. (es : List Door) → IsSearch es to s.distances.items s.queue.items 0) }
+    ensures begun { IfOk result (λ s. IsSearchBegun to s.distances.items) }
+    ensures search { IfOk result (λ s. (es : List Door) → IsSoundSearch es to s.distances.items s.queue.items 0) }
 {
     let distances = vec![in alloc; None; sectors as usize * 2]?;
     let mut search = Search {
@@ -96,7 +96,7 @@ fn begun(alloc: Global, sectors: u16, to: u16) -> Result<Search, Memory>
 
 /// For each sector, without and with a line to spare, how few sides lead to this sector, if any do.
 pub fn distances_to(alloc: Global, doors: &Doors, to: u16) -> Result<Vec<Option<u32>>, Memory>
-    requires indexed { IsIndexed doors.now }
+    requires indexed { AreDoorsIndexed doors.now }
     requires within { to < doors.now.sectors }
     ensures { IfOk result (λ v. AreDistances doors.now.doors.items doors.now.sectors to v.items) }
 {

@@ -1,7 +1,7 @@
 //! Where a noise is, and whether it may still pass a line that blocks sound.
 
 ghost use Rattle.std.specs.Prelude.{◌≡◌};
-ghost use Rattle.sound_reach.specs.State.{after_of, before_of, place_of};
+ghost use Rattle.sound_reach.specs.State.{after_of, before_of, state_place};
 
 use crate::doors::Door;
 
@@ -14,7 +14,7 @@ pub struct State {
 
 /// The place of the state in a list with two entries for each sector.
 pub fn place(state: State) -> usize
-    ensures { result ≡ place_of state }
+    ensures { result ≡ state_place state }
 {
     let spare = if state.spare { 1 } else { 0 };
     state.sector as usize * 2 + spare

@@ -6,11 +6,11 @@ use Rattle.sight_names.specs.declared.limits.TheConstants.{RIGHT_END}
 use Rattle.sight_names.specs.declared.names.Pt.{Pt}
 use Rattle.sight_names.specs.declared.names.EndAt.{EndAt}
 use Rattle.sight_names.specs.declared.names.EndPair.{EndPair}
-use Rattle.sight_names.specs.Splitting.{EndPoints, IsPairOf, AreBalanced, end_of}
+use Rattle.sight_names.specs.Splitting.{EndPoints, IsEndPairOf, AreBalanced, end_of}
 use Rattle.geom_exact.specs.declared.extreme_lines.cone.Cone.TheVariants.{Open}
 use Rattle.geom_exact.specs.declared.extreme_lines.wedge.Wedge.{Wedge}
 use Rattle.geom_exact.specs.ExtremeLines.Differences.{difference}
-use Rattle.geom_exact.specs.ExtremeLines.Spans.{Spans, pair_of}
+use Rattle.geom_exact.specs.ExtremeLines.Spans.{Spans, end_pair_of}
 use Rattle.geom_exact.proofs.ExtremeLines.EndsLemmas.{pair_of_more, end_of_more, left_end, right_end, left_place, right_place, left_within, right_within}
 use Rattle.geom_exact.proofs.ExtremeLines.Widening.{wedge_meets}
 use Rattle.block_evidence.specs.declared.Evidence.{Evidence}
@@ -32,7 +32,7 @@ module _ (es : List EndPoints) (w : Wedge) (h : IsConeOf es (Open w)) where
       let u = right_place es w.second.right h.pairs.second.right_code h.pairs.second.right in
       subst₂ (λ (p q : Pt). Spans (Open w) (difference p q)) t.3 u.3 (h.spans t.0 u.0 t.1 u.1 t.2 u.2)
 
-  pub lines : AreLines (pair_of w.first) (pair_of w.second)
+  pub lines : AreLines (end_pair_of w.first) (end_pair_of w.second)
   lines = record {
     first_left = h.pairs.first.left_code;
     second_left = h.pairs.second.left_code;
@@ -45,13 +45,13 @@ module _ (es : List EndPoints) (w : Wedge) (h : IsConeOf es (Open w)) where
   }
 
   -- the ends have places
-  pub left_before : (p : EndPair) → IsPairOf es p → p.left.code < length es
+  pub left_before : (p : EndPair) → IsEndPairOf es p → p.left.code < length es
   left_before p i = left_within es p.left i.left_code i.left
 
-  pub right_before : (p : EndPair) → IsPairOf es p → p.right.code < length es + RIGHT_END
+  pub right_before : (p : EndPair) → IsEndPairOf es p → p.right.code < length es + RIGHT_END
   right_before p i = right_within es p.right i.right_code i.right
 
-  barred : (q : EndPoints) (new : EndAt) (third : EndPair) (e : Evidence) → IsPairOf (es ++ q ∷ []) third → AreBalanced (pair_of w.first ∷ pair_of w.second ∷ third ∷ []) → Picks (both_ends (pair_of w.first ∷ pair_of w.second ∷ third ∷ [])) e → IsBarredBy (es ++ q ∷ []) e
+  barred : (q : EndPoints) (new : EndAt) (third : EndPair) (e : Evidence) → IsEndPairOf (es ++ q ∷ []) third → AreBalanced (end_pair_of w.first ∷ end_pair_of w.second ∷ third ∷ []) → Picks (both_ends (end_pair_of w.first ∷ end_pair_of w.second ∷ third ∷ [])) e → IsBarredBy (es ++ q ∷ []) e
   barred q new third e i b p = record {
     no_line = shown (es ++ q ∷ []) pairs (record { ends = ends; balanced = b });
     blocks = picks_block pairs e p (es ++ q ∷ []) ends;
@@ -60,14 +60,14 @@ module _ (es : List EndPoints) (w : Wedge) (h : IsConeOf es (Open w)) where
   }
     where
       pairs : List EndPair
-      pairs = pair_of w.first ∷ pair_of w.second ∷ third ∷ []
+      pairs = end_pair_of w.first ∷ end_pair_of w.second ∷ third ∷ []
 
-      ends : All (IsPairOf (es ++ q ∷ [])) pairs
-      ends = All-cons (IsPairOf (es ++ q ∷ [])) (pair_of w.first) (pair_of w.second ∷ third ∷ []) (pair_of_more es (q ∷ []) (pair_of w.first) h.pairs.first)
-          (All-cons (IsPairOf (es ++ q ∷ [])) (pair_of w.second) (third ∷ []) (pair_of_more es (q ∷ []) (pair_of w.second) h.pairs.second)
-          (All-cons (IsPairOf (es ++ q ∷ [])) third [] i (All-nil (IsPairOf (es ++ q ∷ [])))))
+      ends : All (IsEndPairOf (es ++ q ∷ [])) pairs
+      ends = All-cons (IsEndPairOf (es ++ q ∷ [])) (end_pair_of w.first) (end_pair_of w.second ∷ third ∷ []) (pair_of_more es (q ∷ []) (end_pair_of w.first) h.pairs.first)
+          (All-cons (IsEndPairOf (es ++ q ∷ [])) (end_pair_of w.second) (third ∷ []) (pair_of_more es (q ∷ []) (end_pair_of w.second) h.pairs.second)
+          (All-cons (IsEndPairOf (es ++ q ∷ [])) third [] i (All-nil (IsEndPairOf (es ++ q ∷ [])))))
 
-  pub right_barred : (q : EndPoints) (new : EndAt) (e : Evidence) → new ≡ record { code = length es + RIGHT_END; at = q.right } → BarsRight (pair_of w.first) (pair_of w.second) new → Picks (ends_and w new) e → IsBarredBy (es ++ q ∷ []) e
+  pub right_barred : (q : EndPoints) (new : EndAt) (e : Evidence) → new ≡ record { code = length es + RIGHT_END; at = q.right } → BarsRight (end_pair_of w.first) (end_pair_of w.second) new → Picks (ends_and w new) e → IsBarredBy (es ++ q ∷ []) e
   right_barred q new e n b p = barred q new (record { left = w.first.left; right = new }) e (record {
     left_code = h.pairs.first.left_code;
     right_code = (let c = ap (λ (d : EndAt). d.code) n in omega (arith, c));
@@ -76,12 +76,12 @@ module _ (es : List EndPoints) (w : Wedge) (h : IsConeOf es (Open w)) where
   }) (wedge_meets w w.first.left new
       (let t = turn_is w.first w.first.left.at new.at in let z = form_left w.first in let k = b.beyond_first in omega (arith, ints))
       (let t = turn_is w.second w.first.left.at new.at in let k = b.far in omega (arith, ints)))
-      (some_more (ends_and w new) (both_ends (pair_of w.first ∷ pair_of w.second ∷ record { left = w.first.left; right = new } ∷ [])) (Some e) (five_among (pair_of w.first ∷ pair_of w.second ∷ record { left = w.first.left; right = new } ∷ []) (pair_of w.first) (pair_of w.first) (pair_of w.first) new refl (inr refl)) p)
+      (some_more (ends_and w new) (both_ends (end_pair_of w.first ∷ end_pair_of w.second ∷ record { left = w.first.left; right = new } ∷ [])) (Some e) (five_among (end_pair_of w.first ∷ end_pair_of w.second ∷ record { left = w.first.left; right = new } ∷ []) (end_pair_of w.first) (end_pair_of w.first) (end_pair_of w.first) new refl (inr refl)) p)
     where
       there : end_of (es ++ q ∷ []) new.code ≡ Some new
       there = subst (λ (d : EndAt). end_of (es ++ q ∷ []) d.code ≡ Some d) (sym n) (subst (λ (k : ℕ). end_of (es ++ q ∷ []) k ≡ Some (record { code = k; at = q.right })) (omega arith) (right_end (es ++ q ∷ []) (length es) q (get_pushed es q)))
 
-  pub left_barred : (q : EndPoints) (new : EndAt) (e : Evidence) → length es < RIGHT_END → new ≡ record { code = length es; at = q.left } → BarsLeft (pair_of w.first) (pair_of w.second) new → Picks (ends_and w new) e → IsBarredBy (es ++ q ∷ []) e
+  pub left_barred : (q : EndPoints) (new : EndAt) (e : Evidence) → length es < RIGHT_END → new ≡ record { code = length es; at = q.left } → BarsLeft (end_pair_of w.first) (end_pair_of w.second) new → Picks (ends_and w new) e → IsBarredBy (es ++ q ∷ []) e
   left_barred q new e few n b p = barred q new (record { left = new; right = w.second.right }) e (record {
     left_code = b.coded;
     right_code = h.pairs.second.right_code;
@@ -90,4 +90,4 @@ module _ (es : List EndPoints) (w : Wedge) (h : IsConeOf es (Open w)) where
   }) (wedge_meets w new w.second.right
       (let t = turn_is w.first new.at w.second.right.at in let k = b.far in omega (arith, ints))
       (let t = turn_is w.second new.at w.second.right.at in let z = form_right w.second in let k = b.beyond_second in omega (arith, ints)))
-      (some_more (ends_and w new) (both_ends (pair_of w.first ∷ pair_of w.second ∷ record { left = new; right = w.second.right } ∷ [])) (Some e) (five_among (pair_of w.first ∷ pair_of w.second ∷ record { left = new; right = w.second.right } ∷ []) (pair_of w.first) (pair_of w.first) (pair_of w.first) new refl (inl refl)) p)
+      (some_more (ends_and w new) (both_ends (end_pair_of w.first ∷ end_pair_of w.second ∷ record { left = new; right = w.second.right } ∷ [])) (Some e) (five_among (end_pair_of w.first ∷ end_pair_of w.second ∷ record { left = new; right = w.second.right } ∷ []) (end_pair_of w.first) (end_pair_of w.first) (end_pair_of w.first) new refl (inl refl)) p)

@@ -9,7 +9,7 @@ use Rattle.sight_names.specs.declared.names.Pt.{Pt}
 use Rattle.sight_names.specs.declared.names.EndAt.{EndAt}
 use Rattle.geom_exact.specs.ExtremeLines.Differences.{difference}
 use Rattle.stab_hull.specs.declared.chain.Kept.{Kept}
-use Rattle.stab_hull.specs.Chains.{LiesBetween, HasSteps, kept_ends}
+use Rattle.stab_hull.specs.Chains.{LiesBetween, HasChainSteps, kept_ends}
 use Rattle.stab_hull.proofs.Between.{further, lies_between}
 
 -- ---- by the products of the ways from each point to the next
@@ -26,7 +26,7 @@ pub between_by : (a b c : Pt) (turn back along rise : ℤ) → turn ≡ (b.x -�
 between_by a b c turn back along rise et eb ea er flat ahead = lies_between a b c (level a b c (sym et ∙ flat ∙ eb)) (forth a b c (subst (λ (v : ℤ). pos 0 ≤ℤ v) (ap₂ (λ (v w : ℤ). v +ℤ w) ea er) ahead))
 
 -- ---- the first ones
-pub steps_take : (n : ℕ) (ks : List Kept) → HasSteps ks → HasSteps (take n ks)
+pub steps_take : (n : ℕ) (ks : List Kept) → HasChainSteps ks → HasChainSteps (take n ks)
 steps_take n ks h = record {
   within = λ m k e. h.within m k (get_take n ks m k e).1;
   first = λ m k e. h.first m k (get_take n ks m k e).1;
@@ -37,7 +37,7 @@ steps_take n ks h = record {
 abbrev IsPushed : List Kept → Kept → ℕ → Kept → Type 0
 IsPushed ks k n c = (slice_get ks n ≡ Some c) ⊎ ((n ≡ length ks) × (k ≡ c))
 
-steps_pushed : (ks : List Kept) (k : Kept) → k.step ≡ 1 → HasSteps ks → HasSteps (ks ++ k ∷ [])
+steps_pushed : (ks : List Kept) (k : Kept) → k.step ≡ 1 → HasChainSteps ks → HasChainSteps (ks ++ k ∷ [])
 steps_pushed ks k one h = record {
   within = λ n c e. within n c (pushed_at ks k c n e);
   first = λ n c e. first n c (pushed_at ks k c n e);
@@ -63,8 +63,8 @@ steps_pushed ks k one h = record {
     between m i n a b c ea eb (inl g) q mi il = let l = slice_get_within ks n c g in h.between m i n a b c (old m a ea (omega (arith, l, mi, il))) (old i b eb (omega (arith, l, il))) g q mi il
     between m i n a b c ea eb (inr g) q mi il = let s = step_of_new c g.1 in absurd (omega (arith, s, q, mi, il))
 
-pub steps_after : (old made new : List Kept) (k : Kept) → k.step ≡ 1 → made ≡ old → new ≡ made ++ k ∷ [] → HasSteps old → HasSteps new
-steps_after old made new k one same more h = subst HasSteps (sym (more ∙ ap (λ (ks : List Kept). ks ++ k ∷ []) same)) (steps_pushed old k one h)
+pub steps_after : (old made new : List Kept) (k : Kept) → k.step ≡ 1 → made ≡ old → new ≡ made ++ k ∷ [] → HasChainSteps old → HasChainSteps new
+steps_after old made new k one same more h = subst HasChainSteps (sym (more ∙ ap (λ (ks : List Kept). ks ++ k ∷ []) same)) (steps_pushed old k one h)
 
 -- ---- one with another step
 pub set_at : {X : Type 0} (xs : List X) (i j : ℕ) (d x : X) → slice_get (set xs i d) j ≡ Some x → ((j ≡ i → ⊥) × (slice_get xs j ≡ Some x)) ⊎ ((j ≡ i) × (d ≡ x))
@@ -83,8 +83,8 @@ abbrev IsSet : List Kept → ℕ → Kept → ℕ → Kept → Type 0
 IsSet ks i d n k = ((n ≡ i → ⊥) × (slice_get ks n ≡ Some k)) ⊎ ((n ≡ i) × (d ≡ k))
 
 -- the last one steps over the one before it, where that lies between it and the one that that one steps to
-pub steps_longer : (ks : List Kept) (m under last step : ℕ) (a b c d : Kept) → HasSteps ks → last + 1 ≡ length ks → under + 1 ≡ last → m + step ≡ under → slice_get ks m ≡ Some a → slice_get ks under ≡ Some b → slice_get ks last ≡ Some c
-    → b.step ≡ step → LiesBetween a.end.at b.end.at c.end.at → d.end ≡ c.end → d.step ≡ step + 1 → HasSteps (set ks last d)
+pub steps_longer : (ks : List Kept) (m under last step : ℕ) (a b c d : Kept) → HasChainSteps ks → last + 1 ≡ length ks → under + 1 ≡ last → m + step ≡ under → slice_get ks m ≡ Some a → slice_get ks under ≡ Some b → slice_get ks last ≡ Some c
+    → b.step ≡ step → LiesBetween a.end.at b.end.at c.end.at → d.end ≡ c.end → d.step ≡ step + 1 → HasChainSteps (set ks last d)
 steps_longer ks m under last step a b c d h all next back ga gb gc bs lies de ds = record {
   within = λ n k e. within n k (set_at ks last n d k e);
   first = λ n k e. first n k (set_at ks last n d k e);

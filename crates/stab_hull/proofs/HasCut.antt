@@ -5,8 +5,8 @@ use Rattle.sight_names.specs.declared.names.Pt.{Pt}
 use Rattle.sight_names.specs.Point.{point_of, value_at}
 use Rattle.plane_base.specs.Arrows.{cross, dot}
 use Rattle.plane_base.proofs.Middle.{ray_left, ray_right}
-use Rattle.geom_exact.specs.ExtremeLines.Differences.{arrow, difference}
-use Rattle.geom_exact.specs.ExtremeLines.Spans.{arrow_of, form_at, Spans, first_of, second_of, middle_at, IsCutOf}
+use Rattle.geom_exact.specs.ExtremeLines.Differences.{arrow_to, difference}
+use Rattle.geom_exact.specs.ExtremeLines.Spans.{arrow_of, form_at, Spans, first_extreme, second_of, middle_at, IsCutOf}
 use Rattle.geom_exact.specs.declared.extreme_lines.extreme.Extreme.{Extreme}
 use Rattle.geom_exact.specs.declared.extreme_lines.wedge.Wedge.{Wedge}
 use Rattle.geom_exact.specs.declared.extreme_lines.cone.Cone.{Cone}
@@ -16,8 +16,8 @@ use Rattle.geom_exact.proofs.ExtremeLines.Cutting.{cut_near, cut_away, above_mor
 
 -- what a cut of the cone says of ends, whatever its range
 pub record Cuts (cone : Cone) (a b c : ℤ) : Type 0 where
-  pub left : (p : Pt) → Spans cone (difference p (first_of cone).right.at) → Spans cone (difference p (second_of cone).right.at) → pos 0 <ℤ value_at a b c (point_of p)
-  pub right : (p : Pt) → Spans cone (difference (first_of cone).left.at p) → Spans cone (difference (second_of cone).left.at p) → value_at a b c (point_of p) <ℤ pos 0
+  pub left : (p : Pt) → Spans cone (difference p (first_extreme cone).right.at) → Spans cone (difference p (second_of cone).right.at) → pos 0 <ℤ value_at a b c (point_of p)
+  pub right : (p : Pt) → Spans cone (difference (first_extreme cone).left.at p) → Spans cone (difference (second_of cone).left.at p) → value_at a b c (point_of p) <ℤ pos 0
 
 abbrev pub HasCut : Cone → Type 0
 HasCut cone = (a : ℤ) × (b : ℤ) × (c : ℤ) × Cuts cone a b c
@@ -59,15 +59,15 @@ module _ (w : Wedge) where
       which (inl z) = cuts (Open w) a b (c (negsuc 0)) (cut_near w a b (c (negsuc 0)) z (middle (negsuc 0)) (twice_small w.first.a w.second.a w.first.a_small w.second.a_small) (twice_small w.first.b w.second.b w.first.b_small w.second.b_small) (shifted_small w.second.c w.first.c (negsuc 0) w.second.c_small w.first.c_small (omega arith)))
       which (inr n) = cuts (Open w) a b (c (pos 1)) (cut_away w a b (c (pos 1)) n k (middle (pos 1)) (twice_small w.first.a w.second.a w.first.a_small w.second.a_small) (twice_small w.first.b w.second.b w.first.b_small w.second.b_small) (shifted_small w.second.c w.first.c (pos 1) w.second.c_small w.first.c_small (omega arith)))
 
-pub has_cut : (k : Cone) → Spans k (difference (second_of k).left.at (first_of k).right.at) → HasCut k
+pub has_cut : (k : Cone) → Spans k (difference (second_of k).left.at (first_extreme k).right.at) → HasCut k
 has_cut (Open w) h = wedge_has w h
 has_cut (Ray r) h = (
   a,
   b,
   c,
   record {
-    left = λ p i j. above (value_at a b c (point_of p)) (dot (arrow_of r) (difference p r.left.at)) (across p) (ray_left (arrow r.left.at) (arrow r.right.at) (arrow p) i);
-    right = λ p i j. below (value_at a b c (point_of p)) (dot (arrow_of r) (difference p r.left.at)) (across p) (ray_right (arrow r.left.at) (arrow r.right.at) (arrow p) r.long i);
+    left = λ p i j. above (value_at a b c (point_of p)) (dot (arrow_of r) (difference p r.left.at)) (across p) (ray_left (arrow_to r.left.at) (arrow_to r.right.at) (arrow_to p) i);
+    right = λ p i j. below (value_at a b c (point_of p)) (dot (arrow_of r) (difference p r.left.at)) (across p) (ray_right (arrow_to r.left.at) (arrow_to r.right.at) (arrow_to p) r.long i);
   },
 )
   where

@@ -7,15 +7,15 @@ use Rattle.math_base.proofs.Ring.{same_of_difference}
 use Rattle.math_base.proofs.Signs.{mul-nonneg, nonneg-of-mul, mul-pos}
 use Rattle.math_base.proofs.MoreSigns.{mul-neg_ℤ}
 use Rattle.math_base.proofs.Small.{zero_by_first, zero_by_second}
-use Rattle.plane_base.specs.Arrows.{Arrow, cross, dot, IsBetween}
+use Rattle.plane_base.specs.Arrows.{Arrow, cross, dot, IsArrowBetween}
 use Rattle.plane_base.proofs.Middle.{cross_by, dot_by}
 use Rattle.plane_base.proofs.Turns.{turned, split_by, split_along, dot_nonneg}
 use Rattle.sight_names.specs.declared.names.Pt.{Pt}
 use Rattle.sight_names.proofs.Records.{same_pt}
 use Rattle.geom_exact.specs.declared.extreme_lines.cone.Cone.{Cone}
 use Rattle.geom_exact.specs.declared.extreme_lines.cone.Cone.TheVariants.{Ray, Open}
-use Rattle.geom_exact.specs.ExtremeLines.Differences.{arrow, difference}
-use Rattle.geom_exact.specs.ExtremeLines.Spans.{arrow_of, Spans, first_of, second_of}
+use Rattle.geom_exact.specs.ExtremeLines.Differences.{arrow_to, difference}
+use Rattle.geom_exact.specs.ExtremeLines.Spans.{arrow_of, Spans, first_extreme, second_of}
 use Rattle.stab_hull.specs.Stacks.{IsInAngle}
 
 both_negated : (n y : ℤ) → neg_ℤ n *ℤ neg_ℤ y ≡ n *ℤ y
@@ -42,7 +42,7 @@ forwards_second d f x k z h =
     nonneg-of-mul (cross d f) (dot f x) k (omega (arith, ints))
 
 -- the sides span the sum t of an arrow s that they span and an arrow x in their angle
-pub still_between : (d f s x t : Arrow) → pos 0 <ℤ cross d f → ((b : Arrow) → cross b t ≡ cross b s +ℤ cross b x) → ((b : Arrow) → dot b t ≡ dot b s +ℤ dot b x) → pos 0 ≤ℤ cross d x → pos 0 ≤ℤ cross x f → IsBetween d f s → IsBetween d f t
+pub still_between : (d f s x t : Arrow) → pos 0 <ℤ cross d f → ((b : Arrow) → cross b t ≡ cross b s +ℤ cross b x) → ((b : Arrow) → dot b t ≡ dot b s +ℤ dot b x) → pos 0 ≤ℤ cross d x → pos 0 ≤ℤ cross x f → IsArrowBetween d f s → IsArrowBetween d f t
 still_between d f s x t k cs ds hx hf b =
     let u = cs d in
     let v = cs f in
@@ -95,7 +95,7 @@ pub same_angle : (c : Cone) (p q : Pt) → p ≡ q → IsInAngle c (difference p
 same_angle c p q e = none_in_angle c (difference p q) (let k = ap (λ (r : Pt). r.x) e in omega (arith, ints)) (let k = ap (λ (r : Pt). r.y) e in omega (arith, ints))
 
 -- a cone that has the lines of another one has its angle
-pub wider_angle : (c d : Cone) (x : Arrow) → Spans d (arrow_of (first_of c)) → Spans d (arrow_of (second_of c)) → IsInAngle c x → IsInAngle d x
+pub wider_angle : (c d : Cone) (x : Arrow) → Spans d (arrow_of (first_extreme c)) → Spans d (arrow_of (second_of c)) → IsInAngle c x → IsInAngle d x
 wider_angle (Ray e) d x s t h = none_in_angle d x h.0 h.1
 wider_angle (Open w) (Open v) x s t h = in_wider (arrow_of w.first) (arrow_of w.second) x (arrow_of v.first) (arrow_of v.second) w.spread h.0 h.1 s.after t.after s.before t.before
 wider_angle (Open w) (Ray e) x s t h =
@@ -111,18 +111,18 @@ same_point p q hx hy = same_pt p q (same_of_difference p.x q.x hx) (same_of_diff
 -- from p over s to q, by what a functional says of each part
 cross_sum : (b : Arrow) (p s q : Pt) → cross b (difference p q) ≡ cross b (difference s q) +ℤ cross b (difference p s)
 cross_sum b p s q =
-    let u = cross_by b (arrow p) (arrow q) (arrow s) in
-    let v = cross_by b (arrow q) (arrow q) (arrow s) in
-    let w = cross_by b (arrow s) (arrow q) (arrow s) in
-    let z = cross_by b (arrow s) (arrow s) (arrow s) in
+    let u = cross_by b (arrow_to p) (arrow_to q) (arrow_to s) in
+    let v = cross_by b (arrow_to q) (arrow_to q) (arrow_to s) in
+    let w = cross_by b (arrow_to s) (arrow_to q) (arrow_to s) in
+    let z = cross_by b (arrow_to s) (arrow_to s) (arrow_to s) in
     omega (arith, ints)
 
 dot_sum : (b : Arrow) (p s q : Pt) → dot b (difference p q) ≡ dot b (difference s q) +ℤ dot b (difference p s)
 dot_sum b p s q =
-    let u = dot_by b (arrow p) (arrow q) (arrow s) in
-    let v = dot_by b (arrow q) (arrow q) (arrow s) in
-    let w = dot_by b (arrow s) (arrow q) (arrow s) in
-    let z = dot_by b (arrow s) (arrow s) (arrow s) in
+    let u = dot_by b (arrow_to p) (arrow_to q) (arrow_to s) in
+    let v = dot_by b (arrow_to q) (arrow_to q) (arrow_to s) in
+    let w = dot_by b (arrow_to s) (arrow_to q) (arrow_to s) in
+    let z = dot_by b (arrow_to s) (arrow_to s) (arrow_to s) in
     omega (arith, ints)
 
 -- the cone has the line to a left end that another one covers

@@ -6,14 +6,14 @@ use Rattle.sight_names.specs.declared.limits.TheConstants.{RIGHT_END}
 use Rattle.sight_names.specs.declared.names.Pt.{Pt}
 use Rattle.sight_names.specs.declared.names.EndAt.{EndAt}
 use Rattle.sight_names.specs.declared.names.EndPair.{EndPair}
-use Rattle.sight_names.specs.Splitting.{EndPoints, IsPairOf, end_of}
+use Rattle.sight_names.specs.Splitting.{EndPoints, IsEndPairOf, end_of}
 use Rattle.plane_base.specs.Arrows.{Arrow}
 use Rattle.geom_exact.specs.declared.extreme_lines.cone.Cone.{Cone}
 use Rattle.geom_exact.specs.ExtremeLines.Differences.{difference}
-use Rattle.geom_exact.specs.ExtremeLines.Spans.{Spans, first_of, second_of, pair_of}
+use Rattle.geom_exact.specs.ExtremeLines.Spans.{Spans, first_extreme, second_of, end_pair_of}
 use Rattle.geom_exact.proofs.ExtremeLines.EndsLemmas.{get_cases, end_of_more, left_end, right_end}
 use Rattle.stab_hull.specs.Portals.{with_ends, IsConeOf, ShowsNoLine}
-use Rattle.stab_hull.specs.Stacks.{IsAmong, IsInAngle, CoversLeft, CoversRight, IsPairAmong, AreStuckAmong, IsConeOfEnds, IsTopCone, IsAdded, IsLeftEnd, IsRightEnd, IsHullOf}
+use Rattle.stab_hull.specs.Stacks.{IsAmongEnds, IsInAngle, CoversLeft, CoversRight, IsPairAmong, AreStuckAmong, IsConeOfEnds, IsTopCone, IsEndAdded, IsLeftEnd, IsRightEnd, IsHullOf}
 use Rattle.stab_hull.proofs.Hiding.{same_angle, wider_angle, left_covered_spans, right_covered_spans}
 use Rattle.stab_hull.proofs.StepLemmas.{among_more}
 use Rattle.math_base.proofs.Lists.{get_pushed}
@@ -32,26 +32,26 @@ IsTakenLeft c old e new = (new ≡ old ++ e ∷ []) ⊎ ((new ≡ old) × Covers
 abbrev pub IsTakenRight : Cone → List EndAt → EndAt → List EndAt → Type 0
 IsTakenRight c old e new = (new ≡ old ++ e ∷ []) ⊎ ((new ≡ old) × CoversRight old c e.at)
 
-pub taken_left : (c : Cone) (xs ys : List EndAt) (e : EndAt) → IsAdded xs e ys → IsTakenLeft c xs e ys
+pub taken_left : (c : Cone) (xs ys : List EndAt) (e : EndAt) → IsEndAdded xs e ys → IsTakenLeft c xs e ys
 taken_left c xs ys e (inl a) = inl a
 taken_left c xs ys e (inr a) = inr (a.0, (a.1.0, a.1.1, a.1.2, same_angle c e.at a.1.1.at (sym a.1.3)))
 
-pub taken_right : (c : Cone) (xs ys : List EndAt) (e : EndAt) → IsAdded xs e ys → IsTakenRight c xs e ys
+pub taken_right : (c : Cone) (xs ys : List EndAt) (e : EndAt) → IsEndAdded xs e ys → IsTakenRight c xs e ys
 taken_right c xs ys e (inl a) = inl a
 taken_right c xs ys e (inr a) = inr (a.0, (a.1.0, a.1.1, a.1.2, same_angle c a.1.1.at e.at a.1.3))
 
-among_left : (c : Cone) (xs ys : List EndAt) (d e : EndAt) → IsTakenLeft c xs d ys → IsAmong xs e → IsAmong ys e
-among_left c xs ys d e (inl a) h = subst (λ (zs : List EndAt). IsAmong zs e) (sym a) (among_more xs (d ∷ []) e h)
-among_left c xs ys d e (inr a) h = subst (λ (zs : List EndAt). IsAmong zs e) (sym a.0) h
+among_left : (c : Cone) (xs ys : List EndAt) (d e : EndAt) → IsTakenLeft c xs d ys → IsAmongEnds xs e → IsAmongEnds ys e
+among_left c xs ys d e (inl a) h = subst (λ (zs : List EndAt). IsAmongEnds zs e) (sym a) (among_more xs (d ∷ []) e h)
+among_left c xs ys d e (inr a) h = subst (λ (zs : List EndAt). IsAmongEnds zs e) (sym a.0) h
 
-among_right : (c : Cone) (xs ys : List EndAt) (d e : EndAt) → IsTakenRight c xs d ys → IsAmong xs e → IsAmong ys e
-among_right c xs ys d e (inl a) h = subst (λ (zs : List EndAt). IsAmong zs e) (sym a) (among_more xs (d ∷ []) e h)
-among_right c xs ys d e (inr a) h = subst (λ (zs : List EndAt). IsAmong zs e) (sym a.0) h
+among_right : (c : Cone) (xs ys : List EndAt) (d e : EndAt) → IsTakenRight c xs d ys → IsAmongEnds xs e → IsAmongEnds ys e
+among_right c xs ys d e (inl a) h = subst (λ (zs : List EndAt). IsAmongEnds zs e) (sym a) (among_more xs (d ∷ []) e h)
+among_right c xs ys d e (inr a) h = subst (λ (zs : List EndAt). IsAmongEnds zs e) (sym a.0) h
 
 -- the angle of the cone of more ends is wider
-pub cone_wider : (ls rs ls' rs' : List EndAt) (c c' : Cone) → IsConeOfEnds ls rs c → IsConeOfEnds ls' rs' c' → ((e : EndAt) → IsAmong ls e → IsAmong ls' e) → ((e : EndAt) → IsAmong rs e → IsAmong rs' e) → (x : Arrow) → IsInAngle c x → IsInAngle c' x
+pub cone_wider : (ls rs ls' rs' : List EndAt) (c c' : Cone) → IsConeOfEnds ls rs c → IsConeOfEnds ls' rs' c' → ((e : EndAt) → IsAmongEnds ls e → IsAmongEnds ls' e) → ((e : EndAt) → IsAmongEnds rs e → IsAmongEnds rs' e) → (x : Arrow) → IsInAngle c x → IsInAngle c' x
 cone_wider ls rs ls' rs' c c' k k' il ir x h = wider_angle c c' x
-    (k'.spans (first_of c).left (first_of c).right (il (first_of c).left k.ends.first.0) (ir (first_of c).right k.ends.first.1))
+    (k'.spans (first_extreme c).left (first_extreme c).right (il (first_extreme c).left k.ends.first.0) (ir (first_extreme c).right k.ends.first.1))
     (k'.spans (second_of c).left (second_of c).right (il (second_of c).left k.ends.second.0) (ir (second_of c).right k.ends.second.1)) h
 
 left_old : (c c' : Cone) (xs ys : List EndAt) (e : EndAt) (p : Pt) → ((x : Arrow) → IsInAngle c x → IsInAngle c' x) → IsTakenLeft c' xs e ys → CoversLeft xs c p → CoversLeft ys c' p
@@ -146,7 +146,7 @@ module _ (es : List EndPoints) (left right : EndAt) where
     balanced = s.balanced;
   }
     where
-      pair : (p : EndPair) → IsPairAmong (ls ++ left ∷ []) (rs ++ right ∷ []) p → IsPairOf (with_ends es left right) p
+      pair : (p : EndPair) → IsPairAmong (ls ++ left ∷ []) (rs ++ right ∷ []) p → IsEndPairOf (with_ends es left right) p
       pair p m =
           let a = lefts_next ls lc few hl m.0.0 p.left m.0.1 in
           let b = rights_next rs rc hr m.1.0 p.right m.1.1 in
@@ -172,7 +172,7 @@ hull_first left right cs lc rc t = record {
 pub cone_of : (es : List EndPoints) (ls rs : List EndAt) (cs : List Cone) (c : Cone) → IsHullOf es ls rs cs → slice_get cs (length cs - 1) ≡ Some c → IsConeOf es c
 cone_of es ls rs cs c h e = of_top (some_is_same h.cone.0 c (sym h.cone.1 ∙ e)) h.cone.2
   where
-    pair : (p : EndPair) → IsPairAmong ls rs p → IsPairOf es p
+    pair : (p : EndPair) → IsPairAmong ls rs p → IsEndPairOf es p
     pair p m =
         let a = h.left_ends m.0.0 p.left m.0.1 in
         let b = h.right_ends m.1.0 p.right m.1.1 in
@@ -188,7 +188,7 @@ cone_of es ls rs cs c h e = of_top (some_is_same h.cone.0 c (sym h.cone.1 ∙ e)
         right_covered_spans c p.left r.1.at q.right (angle r.1.at q.right r.3) (left_covered_spans c p.left l.1.at r.1.at (angle p.left l.1.at l.3) (k.spans l.1 r.1 (l.0, l.2) (r.0, r.2)))
 
     of_cone : IsConeOfEnds ls rs c → IsConeOf es c
-    of_cone k = record { spans = spans k; pairs = record { first = pair (pair_of (first_of c)) k.ends.first; second = pair (pair_of (second_of c)) k.ends.second } }
+    of_cone k = record { spans = spans k; pairs = record { first = pair (end_pair_of (first_extreme c)) k.ends.first; second = pair (end_pair_of (second_of c)) k.ends.second } }
 
     of_top : h.cone.0 ≡ c → IsConeOfEnds ls rs h.cone.0 → IsConeOf es c
     of_top g k = of_cone (subst (IsConeOfEnds ls rs) g k)

@@ -10,15 +10,15 @@ use Rattle.sight_names.specs.declared.names.Pt.{Pt}
 use Rattle.sight_names.specs.declared.names.EndAt.{EndAt}
 use Rattle.sight_names.specs.declared.names.EndPair.{EndPair}
 use Rattle.sight_names.specs.Point.{point_of, value_at}
-use Rattle.sight_names.specs.Splitting.{EndPoints, IsParted, SplitsEnds, IsSplittable, IsPairOf, end_of}
+use Rattle.sight_names.specs.Splitting.{EndPoints, IsParted, SplitsEnds, IsSplittable, IsEndPairOf, end_of}
 use Rattle.sight_names.proofs.Portals.{parted_at}
 use Rattle.geom_exact.specs.declared.extreme_lines.cone.Cone.{Cone}
 use Rattle.geom_exact.specs.ExtremeLines.Differences.{difference}
-use Rattle.geom_exact.specs.ExtremeLines.Spans.{Spans, first_of, second_of, pair_of, IsCutOf}
+use Rattle.geom_exact.specs.ExtremeLines.Spans.{Spans, first_extreme, second_of, end_pair_of, IsCutOf}
 use Rattle.geom_exact.proofs.ExtremeLines.Balance.{PartsPair, no_line_parts}
 use Rattle.geom_exact.proofs.ExtremeLines.EndsLemmas.{left_place, right_place}
 use Rattle.block_evidence.specs.declared.Evidence.{Evidence}
-use Rattle.block_evidence.specs.Stuck.{AreCoded, Blocks, IsEvidenceOf}
+use Rattle.block_evidence.specs.Stuck.{AreCoded, BlocksEnds, IsEvidenceOf}
 use Rattle.stab_hull.specs.Answer.{IsBarredBy, IsLineInRange}
 use Rattle.stab_hull.specs.Portals.{IsConeOf, ShowsNoLine}
 use Rattle.stab_hull.specs.Stacks.{IsHullOf}
@@ -31,12 +31,12 @@ each_parted a b c (p ∷ es) h = (h 0 p refl, each_parted a b c es (λ k q e. h 
 
 -- a line that cuts between the ends of a cone of portals splits them
 cuts_split : (es : List EndPoints) (k : Cone) (a b c : ℤ) → IsConeOf es k → Cuts k a b c → SplitsEnds es a b c
-cuts_split es k a b c h cut = each_parted a b c es (λ i p e. (cut.left p.left (to_right i p e (pair_of (first_of k)) h.pairs.first) (to_right i p e (pair_of (second_of k)) h.pairs.second), cut.right p.right (from_left i p e (pair_of (first_of k)) h.pairs.first) (from_left i p e (pair_of (second_of k)) h.pairs.second)))
+cuts_split es k a b c h cut = each_parted a b c es (λ i p e. (cut.left p.left (to_right i p e (end_pair_of (first_extreme k)) h.pairs.first) (to_right i p e (end_pair_of (second_of k)) h.pairs.second), cut.right p.right (from_left i p e (end_pair_of (first_extreme k)) h.pairs.first) (from_left i p e (end_pair_of (second_of k)) h.pairs.second)))
   where
-    to_right : (i : ℕ) (p : EndPoints) → slice_get es i ≡ Some p → (r : EndPair) → IsPairOf es r → Spans k (difference p.left r.right.at)
+    to_right : (i : ℕ) (p : EndPoints) → slice_get es i ≡ Some p → (r : EndPair) → IsEndPairOf es r → Spans k (difference p.left r.right.at)
     to_right i p e r m = let t = right_place es r.right m.right_code m.right in subst (λ (u : Pt). Spans k (difference p.left u)) t.3 (h.spans i t.0 p t.1 e t.2)
 
-    from_left : (i : ℕ) (p : EndPoints) → slice_get es i ≡ Some p → (r : EndPair) → IsPairOf es r → Spans k (difference r.left.at p.right)
+    from_left : (i : ℕ) (p : EndPoints) → slice_get es i ≡ Some p → (r : EndPair) → IsEndPairOf es r → Spans k (difference r.left.at p.right)
     from_left i p e r m = let t = left_place es r.left m.left_code m.left in subst (λ (u : Pt). Spans k (difference u p.right)) t.3 (h.spans t.0 i t.1 p t.2 e)
 
 -- so does its middle line
@@ -44,11 +44,11 @@ pub line_splits : (es : List EndPoints) (k : Cone) (a b c : ℤ) → IsConeOf es
 line_splits es k a b c h cut = cuts_split es k a b c h (record { left = cut.left; right = cut.right })
 
 -- the cone has the difference that its middle line asks for
-pub has_corner : (es : List EndPoints) (k : Cone) → IsConeOf es k → Spans k (difference (second_of k).left.at (first_of k).right.at)
+pub has_corner : (es : List EndPoints) (k : Cone) → IsConeOf es k → Spans k (difference (second_of k).left.at (first_extreme k).right.at)
 has_corner es k h =
     let t = left_place es (second_of k).left h.pairs.second.left_code h.pairs.second.left in
-    let u = right_place es (first_of k).right h.pairs.first.right_code h.pairs.first.right in
-    subst (λ (p : Pt). Spans k (difference p (first_of k).right.at)) t.3 (subst (λ (p : Pt). Spans k (difference t.1.left p)) u.3 (h.spans t.0 u.0 t.1 u.1 t.2 u.2))
+    let u = right_place es (first_extreme k).right h.pairs.first.right_code h.pairs.first.right in
+    subst (λ (p : Pt). Spans k (difference p (first_extreme k).right.at)) t.3 (subst (λ (p : Pt). Spans k (difference t.1.left p)) u.3 (h.spans t.0 u.0 t.1 u.1 t.2 u.2))
 
 -- so portals with a cone can be split
 pub hull_splits : (es : List EndPoints) (ls rs : List EndAt) (cs : List Cone) → IsHullOf es ls rs cs → IsSplittable es
@@ -71,7 +71,7 @@ line_is es a b c a' b' c' ea eb ec h =
     (subst (λ (x : ℤ). SplitsEnds es x b c × IsLineInRange x b c) ea h))
 
 -- ---- no line
-pair_parted : (a b c : ℤ) (es : List EndPoints) (p : EndPair) → SplitsEnds es a b c → IsPairOf es p → PartsPair a b c p
+pair_parted : (a b c : ℤ) (es : List EndPoints) (p : EndPair) → SplitsEnds es a b c → IsEndPairOf es p → PartsPair a b c p
 pair_parted a b c es p h m =
     let t = left_place es p.left m.left_code m.left in
     let u = right_place es p.right m.right_code m.right in
@@ -81,26 +81,26 @@ each : {X : Type 0} (P : X → Type 0) (xs : List X) → All P xs → AllByRecur
 each P [] h = tt
 each P (x ∷ xs) h = (h 0 x (omega arith), each P xs (λ k d l. h (suc k) d (omega (arith, l))))
 
-each_pair : (a b c : ℤ) (es : List EndPoints) (ps : List EndPair) → SplitsEnds es a b c → AllByRecursion (IsPairOf es) ps → AllByRecursion (PartsPair a b c) ps
+each_pair : (a b c : ℤ) (es : List EndPoints) (ps : List EndPair) → SplitsEnds es a b c → AllByRecursion (IsEndPairOf es) ps → AllByRecursion (PartsPair a b c) ps
 each_pair a b c es [] h m = tt
 each_pair a b c es (p ∷ ps) h m = (pair_parted a b c es p h m.0, each_pair a b c es ps h m.1)
 
 -- balanced pairs of ends show that no line splits the ends
 pub shown : (es : List EndPoints) (pairs : List EndPair) → ShowsNoLine es pairs → ¬ IsSplittable es
-shown es pairs s (a, b, c, h) = no_line_parts a b c pairs s.balanced (each_pair a b c es pairs h (each (IsPairOf es) pairs s.ends))
+shown es pairs s (a, b, c, h) = no_line_parts a b c pairs s.balanced (each_pair a b c es pairs h (each (IsEndPairOf es) pairs s.ends))
 
 pub same_end : (es : List EndPoints) (x y : EndAt) → end_of es x.code ≡ Some x → end_of es y.code ≡ Some y → x.code ≡ y.code → x ≡ y
 same_end es x y h k e = same_Some x y (sym h ∙ ap (end_of es) e ∙ k)
 
 -- pairs of ends of the same portals
-pub coded_of : (es : List EndPoints) (pairs : List EndPair) → All (IsPairOf es) pairs → AreCoded pairs
+pub coded_of : (es : List EndPoints) (pairs : List EndPair) → All (IsEndPairOf es) pairs → AreCoded pairs
 coded_of es pairs h = record {
   lefts = λ k d l. (h k d l).left_code;
   rights = λ k d l. (h k d l).right_code;
-  same_lefts = λ p q c d e. same_end es p.left q.left (All-contains (IsPairOf es) pairs p h c).left (All-contains (IsPairOf es) pairs q h d).left e;
-  same_rights = λ p q c d e. same_end es p.right q.right (All-contains (IsPairOf es) pairs p h c).right (All-contains (IsPairOf es) pairs q h d).right e;
+  same_lefts = λ p q c d e. same_end es p.left q.left (All-contains (IsEndPairOf es) pairs p h c).left (All-contains (IsEndPairOf es) pairs q h d).left e;
+  same_rights = λ p q c d e. same_end es p.right q.right (All-contains (IsEndPairOf es) pairs p h c).right (All-contains (IsEndPairOf es) pairs q h d).right e;
 }
 
 -- evidence that is made of pairs that show it
-pub shown_barred : (es : List EndPoints) (pairs : List EndPair) (e : Evidence) → ShowsNoLine es pairs → IsEvidenceOf pairs e → ((fs : List EndPoints) → All (IsPairOf fs) pairs → Blocks fs e) → IsBarredBy es e
+pub shown_barred : (es : List EndPoints) (pairs : List EndPair) (e : Evidence) → ShowsNoLine es pairs → IsEvidenceOf pairs e → ((fs : List EndPoints) → All (IsEndPairOf fs) pairs → BlocksEnds fs e) → IsBarredBy es e
 shown_barred es pairs e s i b = record { no_line = shown es pairs s; blocks = b es s.ends; pairs = pairs; evidence = i }

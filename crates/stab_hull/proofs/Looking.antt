@@ -13,7 +13,7 @@ use Rattle.geom_exact.specs.declared.extreme_lines.wedge.Wedge.{Wedge}
 use Rattle.geom_exact.specs.ExtremeLines.Differences.{difference}
 use Rattle.geom_exact.specs.ExtremeLines.Spans.{Spans, IsWidened}
 use Rattle.stab_hull.specs.declared.chain.Kept.{Kept}
-use Rattle.stab_hull.specs.Chains.{HasSteps, LiesBetween, kept_ends}
+use Rattle.stab_hull.specs.Chains.{HasChainSteps, LiesBetween, kept_ends}
 use Rattle.stab_hull.proofs.Between.{spans_left, spans_right}
 use Rattle.stab_hull.proofs.StepLemmas.{Before, From, IsLeftPart, IsRightPart, left_more, right_more}
 
@@ -85,13 +85,13 @@ module _ (ks : List Kept) (rest top : ℕ) (k : Kept) where
   pub next_at : LooksBack (kept_ends ks) rest top → 0 < rest → IsNext ks rest k → slice_get (kept_ends ks) (rest - 1) ≡ Some k.end
   next_at h some is = end_at ks (rest - 1) k (next_kept h some is)
 
-  pub step_fits : HasSteps ks → LooksBack (kept_ends ks) rest top → 0 < rest → IsNext ks rest k → k.step ≤ rest
+  pub step_fits : HasChainSteps ks → LooksBack (kept_ends ks) rest top → 0 < rest → IsNext ks rest k → k.step ≤ rest
   step_fits steps h some is = let f = (steps.within (rest - 1) k (next_kept h some is)).1 in omega (arith, f, some)
 
-  pub step_falls : HasSteps ks → LooksBack (kept_ends ks) rest top → 0 < rest → IsNext ks rest k → rest - k.step < rest
+  pub step_falls : HasChainSteps ks → LooksBack (kept_ends ks) rest top → 0 < rest → IsNext ks rest k → rest - k.step < rest
   step_falls steps h some is = let f = (steps.within (rest - 1) k (next_kept h some is)).0 in omega (arith, f, some)
 
-  pub look_on : HasSteps ks → LooksBack (kept_ends ks) rest top → 0 < rest → IsNext ks rest k → LooksBack (kept_ends ks) (rest - k.step) (rest - 1)
+  pub look_on : HasChainSteps ks → LooksBack (kept_ends ks) rest top → 0 < rest → IsNext ks rest k → LooksBack (kept_ends ks) (rest - k.step) (rest - 1)
   look_on steps h some is =
       let e = next_kept h some is in
       let size = steps.within (rest - 1) k e in

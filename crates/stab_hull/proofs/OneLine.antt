@@ -10,20 +10,20 @@ use Rattle.plane_base.proofs.Turns.{turned, self}
 use Rattle.geom_exact.specs.declared.extreme_lines.extreme.Extreme.{Extreme}
 use Rattle.geom_exact.specs.declared.extreme_lines.wedge.Wedge.{Wedge}
 use Rattle.geom_exact.specs.declared.extreme_lines.cone.Cone.TheVariants.{Open}
-use Rattle.geom_exact.specs.ExtremeLines.Differences.{arrow, difference}
+use Rattle.geom_exact.specs.ExtremeLines.Differences.{arrow_to, difference}
 use Rattle.geom_exact.specs.ExtremeLines.Spans.{arrow_of, form_at, Spans}
 use Rattle.stab_hull.specs.Stacks.{IsConeOfEnds}
 use Rattle.stab_hull.proofs.StepLemmas.{Before, IsLeftPart, IsRightPart}
 
 -- its turn is the difference of its values
 pub turn_is : (e : Extreme) (l r : Pt) → cross (arrow_of e) (difference l r) ≡ form_at e l -ℤ form_at e r
-turn_is e l r = cross_by (arrow_of e) (arrow l) (arrow r) (arrow e.right.at)
+turn_is e l r = cross_by (arrow_of e) (arrow_to l) (arrow_to r) (arrow_to e.right.at)
 
 pub form_left : (e : Extreme) → form_at e e.left.at ≡ pos 0
 form_left e = self (arrow_of e)
 
 pub form_right : (e : Extreme) → form_at e e.right.at ≡ pos 0
-form_right e = let t = cross_by (arrow_of e) (arrow e.right.at) (arrow e.right.at) (arrow e.right.at) in omega (arith, ints)
+form_right e = let t = cross_by (arrow_of e) (arrow_to e.right.at) (arrow_to e.right.at) (arrow_to e.right.at) in omega (arith, ints)
 
 -- a value that was kept in a variable
 pub held : (v : ℤ) → nat_abs v ≤ 2 ^ 53 → to_z w64 (of_z w64 v) ≡ v

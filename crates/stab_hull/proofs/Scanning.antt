@@ -14,7 +14,7 @@ use Rattle.geom_exact.proofs.ExtremeLines.Values.{value_is}
 use Rattle.geom_exact.proofs.ExtremeLines.Widening.{within_both, stays}
 use Rattle.stab_hull.specs.declared.chain.Kept.{Kept}
 use Rattle.stab_hull.specs.declared.slope.Slope.{Slope}
-use Rattle.stab_hull.specs.Chains.{HasSteps, kept_ends}
+use Rattle.stab_hull.specs.Chains.{HasChainSteps, kept_ends}
 use Rattle.stab_hull.specs.Stacks.{IsConeOfEnds}
 use Rattle.stab_hull.proofs.OneLine.{held, turn_is, beyond_first_right, beyond_second_left}
 use Rattle.stab_hull.proofs.StepLemmas.{From, IsLeftPart, IsRightPart, left_whole, right_whole}
@@ -106,7 +106,7 @@ left_passed L R left r w wide n u v cone beyond same at h k less = stays (Open w
 
 -- the look goes on from an end
 module _ (ks : List Kept) (new : EndAt) (k : Kept) (w wide wider : Wedge) (rest : ℕ) (s s' : Slope) (bound bound' : ℤ) where
-  pub right_looks : HasSteps ks → 0 < rest → IsNext ks rest k → SecondToRight ks new w rest wide s bound → IsWidened (Open wide) k.end new (Open wider) → wider.first ≡ wide.first → IsSlopeOf wider.second s' → IsLevelAt wider.second new.at bound' → SecondToRight ks new w (rest - k.step) wider s' bound'
+  pub right_looks : HasChainSteps ks → 0 < rest → IsNext ks rest k → SecondToRight ks new w rest wide s bound → IsWidened (Open wide) k.end new (Open wider) → wider.first ≡ wide.first → IsSlopeOf wider.second s' → IsLevelAt wider.second new.at bound' → SecondToRight ks new w (rest - k.step) wider s' bound'
   right_looks steps some is h more same slope level = record {
     first = same ∙ h.first;
     slope = slope;
@@ -116,7 +116,7 @@ module _ (ks : List Kept) (new : EndAt) (k : Kept) (w wide wider : Wedge) (rest 
     part = λ R c. right_back (kept_ends ks) R rest h.top (Open wide) wider new k.end h.look some (next_at ks rest h.top k h.look some is) more (h.part R c);
   }
 
-  pub left_looks : HasSteps ks → 0 < rest → IsNext ks rest k → FirstToLeft ks new w rest wide s bound → IsWidened (Open wide) new k.end (Open wider) → wider.second ≡ wide.second → IsSlopeOf wider.first s' → IsLevelAt wider.first new.at bound' → FirstToLeft ks new w (rest - k.step) wider s' bound'
+  pub left_looks : HasChainSteps ks → 0 < rest → IsNext ks rest k → FirstToLeft ks new w rest wide s bound → IsWidened (Open wide) new k.end (Open wider) → wider.second ≡ wide.second → IsSlopeOf wider.first s' → IsLevelAt wider.first new.at bound' → FirstToLeft ks new w (rest - k.step) wider s' bound'
   left_looks steps some is h more same slope level = record {
     second = same ∙ h.second;
     slope = slope;

@@ -23,10 +23,10 @@ use Rattle.stab_hull.specs.declared.frame.Noted.{Noted}
 use Rattle.stab_hull.specs.declared.onward.Told.TheVariants as told
 use Rattle.stab_hull.specs.declared.Passed.{Passed}
 use Rattle.stab_hull.specs.declared.Passed.TheVariants as passed
-use Rattle.stab_hull.specs.Answer.{IsPassed, IsBarredBy}
-use Rattle.stab_hull.specs.History.{Counts, IsHistory}
-use Rattle.stab_hull.specs.Portals.{portal_of, portals_of, with_ends, IsConeOf}
-use Rattle.stab_hull.specs.Sleeves.{IsSleeve, IsCoveredLeft, IsCoveredRight, HasLastLeft, HasLastRight, TellsRight, TellsLeft, GoesBy, GoesOn, IsTold, told_of, frame_of, note_of, frames_of, tells_of}
+use Rattle.stab_hull.specs.Answer.{IsPortalPassed, IsBarredBy}
+use Rattle.stab_hull.specs.History.{CountsStacks, IsHistory}
+use Rattle.stab_hull.specs.Portals.{ends_of_frame, portals_of, with_ends, IsConeOf}
+use Rattle.stab_hull.specs.Sleeves.{IsSleeve, IsCoveredLeft, IsCoveredRight, HasLastLeft, HasLastRight, TellsRight, TellsLeft, GoesBy, GoesOnWithNote, IsPortalTold, told_of_search, noted_frame, note_of, frames_of, tells_of}
 use Rattle.stab_hull.specs.Stacks.{CoversLeft, CoversRight, KeepsFirst, IsConeOfEnds, IsTopCone, IsHullOf}
 use Rattle.stab_hull.specs.Turning.{IsRightTurn, IsLeftTurn}
 use Rattle.stab_hull.proofs.Keeping.{kept_push}
@@ -113,17 +113,17 @@ same_wedge v w h = cc
 abbrev pub framed : Pt → Pt → List EndAt → List EndAt → List Cone → Frame
 framed left right ls rs cs = record { left = left; right = right; lefts = length ls; rights = length rs; cones = length cs }
 
-exact_push : (fs : List Frame) (f : Frame) (ls rs : List EndAt) (cs : List Cone) → Counts ls rs cs f → (g : Frame) → slice_get (fs ++ f ∷ []) (length (fs ++ f ∷ []) - 1) ≡ Some g → Counts ls rs cs g
-exact_push fs f ls rs cs h g e = subst (Counts ls rs cs) (some_is_same f g (sym (get_pushed fs f) ∙ ap (slice_get (fs ++ f ∷ [])) (let n = length_pushed fs f in omega (arith, n)) ∙ e)) h
+exact_push : (fs : List Frame) (f : Frame) (ls rs : List EndAt) (cs : List Cone) → CountsStacks ls rs cs f → (g : Frame) → slice_get (fs ++ f ∷ []) (length (fs ++ f ∷ []) - 1) ≡ Some g → CountsStacks ls rs cs g
+exact_push fs f ls rs cs h g e = subst (CountsStacks ls rs cs) (some_is_same f g (sym (get_pushed fs f) ∙ ap (slice_get (fs ++ f ∷ [])) (let n = length_pushed fs f in omega (arith, n)) ∙ e)) h
 
-frame_counts : (p : EndPoints) (f : Frame) (ls rs : List EndAt) (cs : List Cone) → f ≡ record { left = p.left; right = p.right; lefts = length ls; rights = length rs; cones = length cs } → Counts ls rs cs f
+frame_counts : (p : EndPoints) (f : Frame) (ls rs : List EndAt) (cs : List Cone) → f ≡ record { left = p.left; right = p.right; lefts = length ls; rights = length rs; cones = length cs } → CountsStacks ls rs cs f
 frame_counts p f ls rs cs e = record { lefts = ap (λ (g : Frame). g.lefts) e; rights = ap (λ (g : Frame). g.rights) e; cones = ap (λ (g : Frame). g.cones) e }
 
 pub goes_open : (fs gs : List Frame) (p : EndPoints) (f : Frame) (ls rs : List EndAt) (cs : List Cone) → IsHistory fs ls rs cs → IsHullOf (portals_of fs ++ p ∷ []) ls rs cs → f ≡ record { left = p.left; right = p.right; lefts = length ls; rights = length rs; cones = length cs } → gs ≡ fs ++ f ∷ []
     → GoesBy (portals_of fs) p gs ls rs cs (Ok told.Open)
 goes_open fs gs p f ls rs cs h u e g = record {
-  sleeve = subst (λ (xs : List Frame). IsSleeve xs ls rs cs) (sym g) (record { history = push_history fs f ls rs cs h (frame_counts p f ls rs cs e) (subst (λ q. IsHullOf (portals_of fs ++ q ∷ []) ls rs cs) (sym (ap portal_of e)) u); exact = exact_push fs f ls rs cs (frame_counts p f ls rs cs e) });
-  told = (ap portals_of g ∙ portals_next fs f ∙ ap (λ q. portals_of fs ++ q ∷ []) (ap portal_of e), hull_splits (portals_of fs ++ p ∷ []) ls rs cs u);
+  sleeve = subst (λ (xs : List Frame). IsSleeve xs ls rs cs) (sym g) (record { history = push_history fs f ls rs cs h (frame_counts p f ls rs cs e) (subst (λ q. IsHullOf (portals_of fs ++ q ∷ []) ls rs cs) (sym (ap ends_of_frame e)) u); exact = exact_push fs f ls rs cs (frame_counts p f ls rs cs e) });
+  told = (ap portals_of g ∙ portals_next fs f ∙ ap (λ q. portals_of fs ++ q ∷ []) (ap ends_of_frame e), hull_splits (portals_of fs ++ p ∷ []) ls rs cs u);
 }
 
 -- the stacks may grow
@@ -214,7 +214,7 @@ cut_back fs gs top ls rs ls' rs' cs cs' h g t el er ec =
     let f = last_frame fs top ls rs cs h t in
     subst (λ (xs : List Frame). IsSleeve xs ls' rs' cs') (sym g) (record {
       history = stacks_moved fs top ls rs ls' rs' cs cs' t (keeps top.lefts ls ls' f.lefts_in el) (keeps top.rights rs rs' f.rights_in er) (keeps top.cones cs cs' f.cones_in ec) h;
-      exact = λ x e. subst (Counts ls' rs' cs') (some_is_same top x (sym t ∙ e)) (record { lefts = counts top.lefts ls ls' f.lefts_in el; rights = counts top.rights rs rs' f.rights_in er; cones = counts top.cones cs cs' f.cones_in ec });
+      exact = λ x e. subst (CountsStacks ls' rs' cs') (some_is_same top x (sym t ∙ e)) (record { lefts = counts top.lefts ls ls' f.lefts_in el; rights = counts top.rights rs rs' f.rights_in er; cones = counts top.cones cs cs' f.cones_in ec });
     })
   where
     counts : {X : Type 0} (n : ℕ) (xs ys : List X) → n ≤ length xs → ys ≡ take n xs → n ≡ length ys
@@ -232,20 +232,20 @@ goes_stuck fs gs p ls rs cs e h g b = record { sleeve = h; told = (ap portals_of
 
 -- ---- portals with notes
 pub as_many_frames : {N : Type 0} (xs : List (Noted N)) → length (frames_of xs) ≡ length xs
-as_many_frames xs = length-map xs frame_of
+as_many_frames xs = length-map xs noted_frame
 
 pub some_frames : {N : Type 0} (xs : List (Noted N)) → 0 < length xs → 0 < length (frames_of xs)
 some_frames xs l = let m = as_many_frames xs in omega (arith, l, m)
 
 pub frames_pushed : {N : Type 0} (xs : List (Noted N)) (x : Noted N) → frames_of (xs ++ x ∷ []) ≡ frames_of xs ++ x.frame ∷ []
-frames_pushed xs x = map_pushed frame_of xs x
+frames_pushed xs x = map_pushed noted_frame xs x
 
 pub notes_pushed : {N : Type 0} (xs : List (Noted N)) (x : Noted N) → map note_of (xs ++ x ∷ []) ≡ map note_of xs ++ x.note ∷ []
 notes_pushed xs x = map_pushed note_of xs x
 
 -- the last frame is that of the last portal
 pub frame_there : {N : Type 0} (xs : List (Noted N)) (x : Noted N) → slice_get xs (length xs - 1) ≡ Some x → slice_get (frames_of xs) (length (frames_of xs) - 1) ≡ Some x.frame
-frame_there xs x at = ap (λ (n : ℕ). slice_get (frames_of xs) (n - 1)) (as_many_frames xs) ∙ slice_get-map frame_of xs (length xs - 1) ∙ ap (option_map frame_of) at
+frame_there xs x at = ap (λ (n : ℕ). slice_get (frames_of xs) (n - 1)) (as_many_frames xs) ∙ slice_get-map noted_frame xs (length xs - 1) ∙ ap (option_map noted_frame) at
 
 -- the last portal, as it is read
 pub last_noted : {N : Type 0} (xs ys : List (Noted N)) (n : ℕ) (x : Noted N) → ys ≡ xs → n ≡ length ys → 0 < length xs → x ≡ get_or ys (n - 1) x → slice_get (frames_of xs) (length (frames_of xs) - 1) ≡ Some x.frame
@@ -254,15 +254,15 @@ last_noted xs ys n x e k some g =
     frame_there xs x (subst (λ zs. slice_get zs (length zs - 1) ≡ Some x) e (ap (slice_get ys) (omega (arith, k)) ∙ slice_get-get_or ys (n - 1) x (omega (arith, k, m, some)) ∙ ap (λ y. Some y) (sym g)))
 
 -- the ends of the last portal, as they are read
-pub last_ends : {N : Type 0} (xs : List (Noted N)) (x : Noted N) (n : ℕ) → n ≡ length xs → 0 < length xs → x ≡ get_or xs (n - 1) x → slice_get (portals_of (frames_of xs)) (length (portals_of (frames_of xs)) - 1) ≡ Some (portal_of x.frame)
-last_ends xs x n k some g = ap (λ (m : ℕ). slice_get (portals_of (frames_of xs)) (m - 1)) (as_many (frames_of xs)) ∙ slice_get-map portal_of (frames_of xs) (length (frames_of xs) - 1) ∙ ap (option_map portal_of) (last_noted xs xs n x refl k some g)
+pub last_ends : {N : Type 0} (xs : List (Noted N)) (x : Noted N) (n : ℕ) → n ≡ length xs → 0 < length xs → x ≡ get_or xs (n - 1) x → slice_get (portals_of (frames_of xs)) (length (portals_of (frames_of xs)) - 1) ≡ Some (ends_of_frame x.frame)
+last_ends xs x n k some g = ap (λ (m : ℕ). slice_get (portals_of (frames_of xs)) (m - 1)) (as_many (frames_of xs)) ∙ slice_get-map ends_of_frame (frames_of xs) (length (frames_of xs) - 1) ∙ ap (option_map ends_of_frame) (last_noted xs xs n x refl k some g)
 
-pub ends_of_last : {N : Type 0} (xs : List (Noted N)) (e : EndPoints) (x : Noted N) → slice_get (portals_of (frames_of xs)) (length (portals_of (frames_of xs)) - 1) ≡ Some e → x ≡ get_or xs (length xs - 1) x → portal_of x.frame ≡ e
+pub ends_of_last : {N : Type 0} (xs : List (Noted N)) (e : EndPoints) (x : Noted N) → slice_get (portals_of (frames_of xs)) (length (portals_of (frames_of xs)) - 1) ≡ Some e → x ≡ get_or xs (length xs - 1) x → ends_of_frame x.frame ≡ e
 ends_of_last xs e x at g =
     let within = slice_get_within (portals_of (frames_of xs)) _ e at in
     let ends = as_many (frames_of xs) in
     let frames = as_many_frames xs in
-    same_Some (portal_of x.frame) e (sym (last_ends xs x (length xs) refl (omega (arith, within, ends, frames)) g) ∙ at)
+    same_Some (ends_of_frame x.frame) e (sym (last_ends xs x (length xs) refl (omega (arith, within, ends, frames)) g) ∙ at)
 
 -- the place of one more
 pub placed : {N : Type 0} (xs ys : List (Noted N)) (n : ℕ) → ys ≡ xs → n ≡ length ys → n ≡ length (frames_of xs)
@@ -273,25 +273,25 @@ noted f n = record { frame = f; note = n }
 
 -- fewer of them have fewer ends and notes
 pub fewer_ends : {N : Type 0} (xs ys : List (Noted N)) (n : ℕ) → ys ≡ take n xs → portals_of (frames_of ys) ≡ take n (portals_of (frames_of xs))
-fewer_ends xs ys n e = ap (λ zs. portals_of (frames_of zs)) e ∙ ap portals_of (sym (take-map frame_of n xs)) ∙ sym (take-map portal_of n (frames_of xs))
+fewer_ends xs ys n e = ap (λ zs. portals_of (frames_of zs)) e ∙ ap portals_of (sym (take-map noted_frame n xs)) ∙ sym (take-map ends_of_frame n (frames_of xs))
 
 pub fewer_notes : {N : Type 0} (xs ys : List (Noted N)) (n : ℕ) → ys ≡ take n xs → map note_of ys ≡ take n (map note_of xs)
 fewer_notes xs ys n e = ap (map note_of) e ∙ sym (take-map note_of n xs)
 
 -- what a search tells, where nothing was told before it
-pub searched : (old mid new : List EndPoints) (e : EndPoints) (r : Result Passed Memory) → mid ≡ old → IsTold mid e new (told_of r) → IsPassed old e new r
-searched old mid new e (Ok passed.Open) m h = subst (λ (es : List EndPoints). IsPassed es e new (Ok passed.Open)) m h
-searched old mid new e (Ok (passed.Stuck v)) m h = subst (λ (es : List EndPoints). IsPassed es e new (Ok (passed.Stuck v))) m h
+pub searched : (old mid new : List EndPoints) (e : EndPoints) (r : Result Passed Memory) → mid ≡ old → IsPortalTold mid e new (told_of_search r) → IsPortalPassed old e new r
+searched old mid new e (Ok passed.Open) m h = subst (λ (es : List EndPoints). IsPortalPassed es e new (Ok passed.Open)) m h
+searched old mid new e (Ok (passed.Stuck v)) m h = subst (λ (es : List EndPoints). IsPortalPassed es e new (Ok (passed.Stuck v))) m h
 searched old mid new e (Err f) m h = h ∙ m
 
 -- the note stands with the portal
-pub goes_noted : {N : Type 0} (old new : List (Noted N)) (x : Noted N) (p : EndPoints) (ls rs : List EndAt) (cs : List Cone) → new ≡ old ++ x ∷ [] → GoesBy (portals_of (frames_of old)) p (frames_of new) ls rs cs (Ok told.Open) → GoesOn old x.note p new ls rs cs (Ok told.Open)
+pub goes_noted : {N : Type 0} (old new : List (Noted N)) (x : Noted N) (p : EndPoints) (ls rs : List EndAt) (cs : List Cone) → new ≡ old ++ x ∷ [] → GoesBy (portals_of (frames_of old)) p (frames_of new) ls rs cs (Ok told.Open) → GoesOnWithNote old x.note p new ls rs cs (Ok told.Open)
 goes_noted old new x p ls rs cs is g = record { sleeve = g.sleeve; told = g.told; noted = ap (map note_of) is ∙ notes_pushed old x }
 
-pub stays_stuck : {N : Type 0} (old new : List (Noted N)) (n : N) (p : EndPoints) (ls rs : List EndAt) (cs : List Cone) (e : Evidence) → new ≡ old → GoesBy (portals_of (frames_of old)) p (frames_of new) ls rs cs (Ok (told.Stuck e)) → GoesOn old n p new ls rs cs (Ok (told.Stuck e))
+pub stays_stuck : {N : Type 0} (old new : List (Noted N)) (n : N) (p : EndPoints) (ls rs : List EndAt) (cs : List Cone) (e : Evidence) → new ≡ old → GoesBy (portals_of (frames_of old)) p (frames_of new) ls rs cs (Ok (told.Stuck e)) → GoesOnWithNote old n p new ls rs cs (Ok (told.Stuck e))
 stays_stuck old new n p ls rs cs e is g = record { sleeve = g.sleeve; told = g.told; noted = ap (map note_of) is }
 
-pub stays_err : {N : Type 0} (old new : List (Noted N)) (n : N) (p : EndPoints) (ls rs : List EndAt) (cs : List Cone) (e : Memory) → new ≡ old → IsSleeve (frames_of new) ls rs cs → GoesOn old n p new ls rs cs (Err e)
+pub stays_err : {N : Type 0} (old new : List (Noted N)) (n : N) (p : EndPoints) (ls rs : List EndAt) (cs : List Cone) (e : Memory) → new ≡ old → IsSleeve (frames_of new) ls rs cs → GoesOnWithNote old n p new ls rs cs (Err e)
 stays_err old new n p ls rs cs e is h = record { sleeve = h; told = ap (λ xs. portals_of (frames_of xs)) is; noted = ap (map note_of) is }
 
 pub no_last_frame : {N : Type 0} (xs : List (Noted N)) → slice_get xs (length xs - 1) ≡ None → frames_of xs ≡ []

@@ -14,10 +14,10 @@ use Rattle.geom_exact.specs.declared.extreme_lines.extreme.Extreme.{Extreme}
 use Rattle.geom_exact.specs.declared.extreme_lines.cone.Cone.{Cone}
 use Rattle.geom_exact.specs.declared.extreme_lines.cone.Cone.TheVariants.{Ray}
 use Rattle.geom_exact.specs.ExtremeLines.Differences.{difference}
-use Rattle.geom_exact.specs.ExtremeLines.Spans.{arrow_of, Spans, first_of, second_of, pair_of, IsWidened, three_pairs}
+use Rattle.geom_exact.specs.ExtremeLines.Spans.{arrow_of, Spans, first_extreme, second_of, end_pair_of, IsWidened, three_pairs}
 use Rattle.geom_exact.proofs.ExtremeLines.Widening.{made_arrow}
 use Rattle.geom_exact.proofs.ExtremeLines.EndsLemmas.{get_append, get_cases}
-use Rattle.stab_hull.specs.Stacks.{IsAmong, IsPairAmong, SpansEnds, IsOfEnds, IsConeOfEnds, AreStuckAmong, IsTopCone, IsAdded}
+use Rattle.stab_hull.specs.Stacks.{IsAmongEnds, IsPairAmong, SpansEnds, IsOfEnds, IsConeOfEnds, AreStuckAmong, IsTopCone, IsEndAdded}
 use Rattle.math_base.proofs.Lists.{get_pushed}
 use Rattle.math_base.proofs.Options.{some_is_same, none_is_not_some, some_is_not_none}
 
@@ -45,25 +45,25 @@ pub record IsRightPart (lefts rights : List EndAt) (right : EndAt) (P : ℕ → 
 pub next_place : (n k : ℕ) → Before (n + 1) k → Before n k ⊎ (k ≡ n)
 next_place n k = below_more (λ (j : ℕ). Before n j ⊎ (j ≡ n)) n (λ j l. inl l) (inr refl) k
 
-pub among_more : (xs ys : List EndAt) (e : EndAt) → IsAmong xs e → IsAmong (xs ++ ys) e
+pub among_more : (xs ys : List EndAt) (e : EndAt) → IsAmongEnds xs e → IsAmongEnds (xs ++ ys) e
 among_more xs ys e h = (h.0, get_append xs ys h.0 e h.1)
 
-pub among_last : (xs : List EndAt) (e : EndAt) → IsAmong (xs ++ e ∷ []) e
+pub among_last : (xs : List EndAt) (e : EndAt) → IsAmongEnds (xs ++ e ∷ []) e
 among_last xs e = (length xs, get_pushed xs e)
 
 chosen : (L R : List EndAt) (old new made : EndPair) → (new ≡ old) ⊎ (new ≡ made) → IsPairAmong L R old → IsPairAmong L R made → IsPairAmong L R new
 chosen L R old new made (inl e) h k = subst (IsPairAmong L R) (sym e) h
 chosen L R old new made (inr e) h k = subst (IsPairAmong L R) (sym e) k
 
-ends_widened : (L R : List EndAt) (c d : Cone) (l r : EndAt) → IsWidened c l r d → IsOfEnds L R c → IsAmong L l → IsAmong R r → IsOfEnds L R d
+ends_widened : (L R : List EndAt) (c d : Cone) (l r : EndAt) → IsWidened c l r d → IsOfEnds L R c → IsAmongEnds L l → IsAmongEnds R r → IsOfEnds L R d
 ends_widened L R c d l r w h hl hr = record {
-  first = chosen L R (pair_of (first_of c)) (pair_of (first_of d)) (record { left = l; right = r }) w.first h.first (hl, hr);
-  second = chosen L R (pair_of (second_of c)) (pair_of (second_of d)) (record { left = l; right = r }) w.second h.second (hl, hr);
+  first = chosen L R (end_pair_of (first_extreme c)) (end_pair_of (first_extreme d)) (record { left = l; right = r }) w.first h.first (hl, hr);
+  second = chosen L R (end_pair_of (second_of c)) (end_pair_of (second_of d)) (record { left = l; right = r }) w.second h.second (hl, hr);
 }
 
-stuck_among : (L R : List EndAt) (c : Cone) (l r : EndAt) (pairs : List EndPair) → IsOfEnds L R c → IsAmong L l → IsAmong R r → pairs ≡ three_pairs c l r → AreBalanced (three_pairs c l r) → AreStuckAmong L R pairs
+stuck_among : (L R : List EndAt) (c : Cone) (l r : EndAt) (pairs : List EndPair) → IsOfEnds L R c → IsAmongEnds L l → IsAmongEnds R r → pairs ≡ three_pairs c l r → AreBalanced (three_pairs c l r) → AreStuckAmong L R pairs
 stuck_among L R c l r pairs h hl hr e b = record {
-  ends = subst (All (IsPairAmong L R)) (sym e) (All-cons (IsPairAmong L R) (pair_of (first_of c)) (pair_of (second_of c) ∷ record { left = l; right = r } ∷ []) h.first (All-cons (IsPairAmong L R) (pair_of (second_of c)) (record { left = l; right = r } ∷ []) h.second (All-cons (IsPairAmong L R) (record { left = l; right = r }) [] (hl, hr) (All-nil (IsPairAmong L R)))));
+  ends = subst (All (IsPairAmong L R)) (sym e) (All-cons (IsPairAmong L R) (end_pair_of (first_extreme c)) (end_pair_of (second_of c) ∷ record { left = l; right = r } ∷ []) h.first (All-cons (IsPairAmong L R) (end_pair_of (second_of c)) (record { left = l; right = r } ∷ []) h.second (All-cons (IsPairAmong L R) (record { left = l; right = r }) [] (hl, hr) (All-nil (IsPairAmong L R)))));
   balanced = subst AreBalanced (sym e) b;
 }
 
@@ -71,7 +71,7 @@ stuck_among L R c l r pairs h hl hr e b = record {
 module _ (L R : List EndAt) (left : EndAt) where
   pub left_ends : (c : Cone) → IsOfEnds L R c → IsOfEnds (L ++ left ∷ []) R c
   left_ends c h = record {
-    first = (among_more L (left ∷ []) (first_of c).left h.first.0, h.first.1);
+    first = (among_more L (left ∷ []) (first_extreme c).left h.first.0, h.first.1);
     second = (among_more L (left ∷ []) (second_of c).left h.second.0, h.second.1);
   }
 
@@ -92,7 +92,7 @@ module _ (L R : List EndAt) (left : EndAt) where
   pub left_stuck : (P : ℕ → Type 0) (n : ℕ) (r : EndAt) (c : Cone) (pairs : List EndPair) → slice_get R n ≡ Some r → IsLeftPart L R left P c → pairs ≡ three_pairs c left r → AreBalanced (three_pairs c left r) → AreStuckAmong (L ++ left ∷ []) R pairs
   left_stuck P n r c pairs e h t b = stuck_among (L ++ left ∷ []) R c left r pairs h.ends (among_last L left) (n, e) t b
 
-  left_spans : (c : Cone) → SpansEnds L R c → ((r : EndAt) → IsAmong R r → Spans c (difference left.at r.at)) → SpansEnds (L ++ left ∷ []) R c
+  left_spans : (c : Cone) → SpansEnds L R c → ((r : EndAt) → IsAmongEnds R r → Spans c (difference left.at r.at)) → SpansEnds (L ++ left ∷ []) R c
   left_spans c h k l r hl hr = case (get_cases L left hl.0 l hl.1)
     where
       case : (slice_get L hl.0 ≡ Some l) ⊎ (left ≡ l) → Spans c (difference l.at r.at)
@@ -105,20 +105,20 @@ module _ (L R : List EndAt) (left : EndAt) where
     ends = h.ends;
   }
 
-  pub left_outside : (c : Cone) → ((r : Pt) → Spans c (difference (first_of c).left.at r) → Spans c (difference (second_of c).left.at r) → Spans c (difference left.at r)) → IsConeOfEnds L R c → IsConeOfEnds (L ++ left ∷ []) R c
+  pub left_outside : (c : Cone) → ((r : Pt) → Spans c (difference (first_extreme c).left.at r) → Spans c (difference (second_of c).left.at r) → Spans c (difference left.at r)) → IsConeOfEnds L R c → IsConeOfEnds (L ++ left ∷ []) R c
   left_outside c f h = record {
-    spans = left_spans c h.spans (λ r m. f r.at (h.spans (first_of c).left r h.ends.first.0 m) (h.spans (second_of c).left r h.ends.second.0 m));
+    spans = left_spans c h.spans (λ r m. f r.at (h.spans (first_extreme c).left r h.ends.first.0 m) (h.spans (second_of c).left r h.ends.second.0 m));
     ends = left_ends c h.ends;
   }
 
-  pub left_meets : (c : Cone) (r : EndAt) (pairs : List EndPair) → IsConeOfEnds L R c → IsAmong R r → pairs ≡ three_pairs c left r → AreBalanced (three_pairs c left r) → AreStuckAmong (L ++ left ∷ []) R pairs
+  pub left_meets : (c : Cone) (r : EndAt) (pairs : List EndPair) → IsConeOfEnds L R c → IsAmongEnds R r → pairs ≡ three_pairs c left r → AreBalanced (three_pairs c left r) → AreStuckAmong (L ++ left ∷ []) R pairs
   left_meets c r pairs h m t b = stuck_among (L ++ left ∷ []) R c left r pairs (left_ends c h.ends) (among_last L left) m t b
 
 -- ---- a right end
 module _ (L R : List EndAt) (right : EndAt) where
   pub right_ends : (c : Cone) → IsOfEnds L R c → IsOfEnds L (R ++ right ∷ []) c
   right_ends c h = record {
-    first = (h.first.0, among_more R (right ∷ []) (first_of c).right h.first.1);
+    first = (h.first.0, among_more R (right ∷ []) (first_extreme c).right h.first.1);
     second = (h.second.0, among_more R (right ∷ []) (second_of c).right h.second.1);
   }
 
@@ -139,7 +139,7 @@ module _ (L R : List EndAt) (right : EndAt) where
   pub right_stuck : (P : ℕ → Type 0) (n : ℕ) (l : EndAt) (c : Cone) (pairs : List EndPair) → slice_get L n ≡ Some l → IsRightPart L R right P c → pairs ≡ three_pairs c l right → AreBalanced (three_pairs c l right) → AreStuckAmong L (R ++ right ∷ []) pairs
   right_stuck P n l c pairs e h t b = stuck_among L (R ++ right ∷ []) c l right pairs h.ends (n, e) (among_last R right) t b
 
-  right_spans : (c : Cone) → SpansEnds L R c → ((l : EndAt) → IsAmong L l → Spans c (difference l.at right.at)) → SpansEnds L (R ++ right ∷ []) c
+  right_spans : (c : Cone) → SpansEnds L R c → ((l : EndAt) → IsAmongEnds L l → Spans c (difference l.at right.at)) → SpansEnds L (R ++ right ∷ []) c
   right_spans c h k l r hl hr = case (get_cases R right hr.0 r hr.1)
     where
       case : (slice_get R hr.0 ≡ Some r) ⊎ (right ≡ r) → Spans c (difference l.at r.at)
@@ -152,13 +152,13 @@ module _ (L R : List EndAt) (right : EndAt) where
     ends = h.ends;
   }
 
-  pub right_outside : (c : Cone) → ((l : Pt) → Spans c (difference l (first_of c).right.at) → Spans c (difference l (second_of c).right.at) → Spans c (difference l right.at)) → IsConeOfEnds L R c → IsConeOfEnds L (R ++ right ∷ []) c
+  pub right_outside : (c : Cone) → ((l : Pt) → Spans c (difference l (first_extreme c).right.at) → Spans c (difference l (second_of c).right.at) → Spans c (difference l right.at)) → IsConeOfEnds L R c → IsConeOfEnds L (R ++ right ∷ []) c
   right_outside c f h = record {
-    spans = right_spans c h.spans (λ l m. f l.at (h.spans l (first_of c).right m h.ends.first.1) (h.spans l (second_of c).right m h.ends.second.1));
+    spans = right_spans c h.spans (λ l m. f l.at (h.spans l (first_extreme c).right m h.ends.first.1) (h.spans l (second_of c).right m h.ends.second.1));
     ends = right_ends c h.ends;
   }
 
-  pub right_meets : (c : Cone) (l : EndAt) (pairs : List EndPair) → IsConeOfEnds L R c → IsAmong L l → pairs ≡ three_pairs c l right → AreBalanced (three_pairs c l right) → AreStuckAmong L (R ++ right ∷ []) pairs
+  pub right_meets : (c : Cone) (l : EndAt) (pairs : List EndPair) → IsConeOfEnds L R c → IsAmongEnds L l → pairs ≡ three_pairs c l right → AreBalanced (three_pairs c l right) → AreStuckAmong L (R ++ right ∷ []) pairs
   right_meets c l pairs h m t b = stuck_among L (R ++ right ∷ []) c l right pairs (right_ends c h.ends) m (among_last R right) t b
 
 -- ---- stacks of cones
@@ -203,7 +203,7 @@ top_first e left right C C' u v k = top_next (left ∷ []) (right ∷ []) C C' (
   ends = record { first = pair; second = pair };
 })
   where
-    pair : IsPairAmong (left ∷ []) (right ∷ []) (pair_of e)
+    pair : IsPairAmong (left ∷ []) (right ∷ []) (end_pair_of e)
     pair = ((0, ap (λ (x : EndAt). Some x) (sym u)), (0, ap (λ (x : EndAt). Some x) (sym v)))
 
 -- ---- a left end, and then a right end
@@ -215,27 +215,27 @@ pub some_part : {X : Type 0} (P : Type 0) (Q : X → Type 0) (o : Option X) (x :
 some_part P Q None x e h = absurd (none_is_not_some x e)
 some_part P Q (Some y) x e h = subst Q (some_is_same y x e) h
 
-all_pairs : (L R L' R' : List EndAt) (pairs : List EndPair) → ((e : EndAt) → IsAmong L e → IsAmong L' e) → ((e : EndAt) → IsAmong R e → IsAmong R' e) → AreStuckAmong L R pairs → AreStuckAmong L' R' pairs
+all_pairs : (L R L' R' : List EndAt) (pairs : List EndPair) → ((e : EndAt) → IsAmongEnds L e → IsAmongEnds L' e) → ((e : EndAt) → IsAmongEnds R e → IsAmongEnds R' e) → AreStuckAmong L R pairs → AreStuckAmong L' R' pairs
 all_pairs L R L' R' pairs f g h = record { ends = λ k d l. let m = h.ends k d l in (f _ m.0, g _ m.1); balanced = h.balanced }
 
 pub left_alone : (left right : EndAt) (L0 R0 L1 R1 : List EndAt) (pairs : List EndPair) → L1 ≡ L0 → R1 ≡ R0 → AreStuckAmong (L1 ++ left ∷ []) R1 pairs → AreStuckAmong (L0 ++ left ∷ []) (R0 ++ right ∷ []) pairs
 left_alone left right L0 R0 L1 R1 pairs el er h = all_pairs (L1 ++ left ∷ []) R1 (L0 ++ left ∷ []) (R0 ++ right ∷ []) pairs
-    (λ e m. subst (λ (xs : List EndAt). IsAmong (xs ++ left ∷ []) e) el m)
-    (λ e m. among_more R0 (right ∷ []) e (subst (λ (xs : List EndAt). IsAmong xs e) er m)) h
+    (λ e m. subst (λ (xs : List EndAt). IsAmongEnds (xs ++ left ∷ []) e) el m)
+    (λ e m. among_more R0 (right ∷ []) e (subst (λ (xs : List EndAt). IsAmongEnds xs e) er m)) h
 
-added_among : (xs ys : List EndAt) (d e : EndAt) → IsAdded xs d ys → IsAmong ys e → IsAmong (xs ++ d ∷ []) e
-added_among xs ys d e (inl a) m = subst (λ (zs : List EndAt). IsAmong zs e) a m
-added_among xs ys d e (inr a) m = among_more xs (d ∷ []) e (subst (λ (zs : List EndAt). IsAmong zs e) a.0 m)
+added_among : (xs ys : List EndAt) (d e : EndAt) → IsEndAdded xs d ys → IsAmongEnds ys e → IsAmongEnds (xs ++ d ∷ []) e
+added_among xs ys d e (inl a) m = subst (λ (zs : List EndAt). IsAmongEnds zs e) a m
+added_among xs ys d e (inr a) m = among_more xs (d ∷ []) e (subst (λ (zs : List EndAt). IsAmongEnds zs e) a.0 m)
 
-pub both_added : (left right : EndAt) (L0 R0 T L1 R1 L2 R2 : List EndAt) (C2 : List Cone) (r : Result (Option (List EndPair)) Memory) → T ≡ L0 → R1 ≡ R0 → L2 ≡ L1 → IsAdded T left L1
-    → IfOk r (λ stuck. MatchOption stuck (IsTopCone L1 R2 C2 × IsAdded R1 right R2) (λ pairs. AreStuckAmong L1 (R1 ++ right ∷ []) pairs))
-    → IfOk r (λ stuck. MatchOption stuck (IsTopCone L2 R2 C2 × IsAdded L0 left L2 × IsAdded R0 right R2) (λ pairs. AreStuckAmong (L0 ++ left ∷ []) (R0 ++ right ∷ []) pairs))
+pub both_added : (left right : EndAt) (L0 R0 T L1 R1 L2 R2 : List EndAt) (C2 : List Cone) (r : Result (Option (List EndPair)) Memory) → T ≡ L0 → R1 ≡ R0 → L2 ≡ L1 → IsEndAdded T left L1
+    → IfOk r (λ stuck. MatchOption stuck (IsTopCone L1 R2 C2 × IsEndAdded R1 right R2) (λ pairs. AreStuckAmong L1 (R1 ++ right ∷ []) pairs))
+    → IfOk r (λ stuck. MatchOption stuck (IsTopCone L2 R2 C2 × IsEndAdded L0 left L2 × IsEndAdded R0 right R2) (λ pairs. AreStuckAmong (L0 ++ left ∷ []) (R0 ++ right ∷ []) pairs))
 both_added left right L0 R0 T L1 R1 L2 R2 C2 (Ok None) et er el a h = (
   subst (λ (xs : List EndAt). IsTopCone xs R2 C2) (sym el) h.0,
-  subst₂ (λ (xs ys : List EndAt). IsAdded xs left ys) et (sym el) a,
-  subst (λ (xs : List EndAt). IsAdded xs right R2) er h.1,
+  subst₂ (λ (xs ys : List EndAt). IsEndAdded xs left ys) et (sym el) a,
+  subst (λ (xs : List EndAt). IsEndAdded xs right R2) er h.1,
 )
 both_added left right L0 R0 T L1 R1 L2 R2 C2 (Ok (Some pairs)) et er el a h = all_pairs L1 (R1 ++ right ∷ []) (L0 ++ left ∷ []) (R0 ++ right ∷ []) pairs
-    (λ e m. added_among L0 L1 left e (subst (λ (xs : List EndAt). IsAdded xs left L1) et a) m)
-    (λ e m. subst (λ (xs : List EndAt). IsAmong (xs ++ right ∷ []) e) er m) h
+    (λ e m. added_among L0 L1 left e (subst (λ (xs : List EndAt). IsEndAdded xs left L1) et a) m)
+    (λ e m. subst (λ (xs : List EndAt). IsAmongEnds (xs ++ right ∷ []) e) er m) h
 both_added left right L0 R0 T L1 R1 L2 R2 C2 (Err m) et er el a h = tt

@@ -7,7 +7,7 @@ use Rattle.plane_base.proofs.Middle as middle
 use Rattle.geom_exact.specs.declared.extreme_lines.cone.Cone.{Cone}
 use Rattle.geom_exact.specs.declared.extreme_lines.cone.Cone.TheVariants.{Open}
 use Rattle.geom_exact.specs.declared.extreme_lines.wedge.Wedge.{Wedge}
-use Rattle.geom_exact.specs.ExtremeLines.Differences.{arrow}
+use Rattle.geom_exact.specs.ExtremeLines.Differences.{arrow_to}
 use Rattle.geom_exact.specs.ExtremeLines.Spans.{form_at, three_pairs}
 use Rattle.geom_exact.proofs.ExtremeLines.Widening.{wedge_meets}
 use Rattle.stab_hull.specs.Stacks.{IsConeOfEnds, AreStuckAmong}
@@ -19,7 +19,7 @@ module _ (L R : List EndAt) (end : EndAt) (c : Cone) (w : Wedge) (is : c ≡ Ope
   -- right of both lines: nothing moves
   pub right_same : form_at w.first end.at <ℤ pos 0 → pos 0 <ℤ form_at w.second end.at → IsConeOfEnds L R c → IsConeOfEnds L (R ++ end ∷ []) c
   right_same h k m = subst (λ (d : Cone). IsConeOfEnds L (R ++ end ∷ []) d) (sym is) (right_outside L R end (Open w)
-      (λ l a b. middle.right_outside (arrow w.first.left.at) (arrow w.first.right.at) (arrow w.second.left.at) (arrow w.second.right.at) (arrow l) (arrow end.at) h k a b) (subst (λ (d : Cone). IsConeOfEnds L R d) is m))
+      (λ l a b. middle.right_outside (arrow_to w.first.left.at) (arrow_to w.first.right.at) (arrow_to w.second.left.at) (arrow_to w.second.right.at) (arrow_to l) (arrow_to end.at) h k a b) (subst (λ (d : Cone). IsConeOfEnds L R d) is m))
 
   -- not right of the first, and no farther right of the second than the left end of the first: no line splits it from that end
   pub right_no_line : (pairs : List EndPair) → pos 0 ≤ℤ form_at w.first end.at → form_at w.second end.at ≤ℤ form_at w.second w.first.left.at → pairs ≡ three_pairs c w.first.left end → IsConeOfEnds L R c → AreStuckAmong L (R ++ end ∷ []) pairs
@@ -33,7 +33,7 @@ module _ (L R : List EndAt) (end : EndAt) (c : Cone) (w : Wedge) (is : c ≡ Ope
   -- ---- a new left end
   pub left_same : pos 0 <ℤ form_at w.first end.at → form_at w.second end.at <ℤ pos 0 → IsConeOfEnds L R c → IsConeOfEnds (L ++ end ∷ []) R c
   left_same h k m = subst (λ (d : Cone). IsConeOfEnds (L ++ end ∷ []) R d) (sym is) (left_outside L R end (Open w)
-      (λ r a b. middle.left_outside (arrow w.first.left.at) (arrow w.first.right.at) (arrow w.second.left.at) (arrow w.second.right.at) (arrow end.at) (arrow r) h k a b) (subst (λ (d : Cone). IsConeOfEnds L R d) is m))
+      (λ r a b. middle.left_outside (arrow_to w.first.left.at) (arrow_to w.first.right.at) (arrow_to w.second.left.at) (arrow_to w.second.right.at) (arrow_to end.at) (arrow_to r) h k a b) (subst (λ (d : Cone). IsConeOfEnds L R d) is m))
 
   pub left_no_line : (pairs : List EndPair) → pos 0 ≤ℤ form_at w.second end.at → form_at w.first end.at ≤ℤ form_at w.first w.second.right.at → pairs ≡ three_pairs c end w.second.right → IsConeOfEnds L R c → AreStuckAmong (L ++ end ∷ []) R pairs
   left_no_line pairs h k e m =

@@ -4,7 +4,7 @@ use Rattle.sight_names.specs.declared.names.Memory.{Memory}
 use Rattle.sight_names.specs.Splitting.{EndPoints, IsSplittable}
 use Rattle.sight_names.specs.declared.names.EndPair.{EndPair}
 use Rattle.block_evidence.specs.declared.Evidence.{Evidence}
-use Rattle.block_evidence.specs.Stuck.{Blocks, IsEvidenceOf}
+use Rattle.block_evidence.specs.Stuck.{BlocksEnds, IsEvidenceOf}
 use Rattle.stab_hull.specs.declared.Passed.{Passed}
 use Rattle.stab_hull.specs.declared.Passed.TheVariants.{Open, Stuck}
 
@@ -17,12 +17,12 @@ pub record IsLineInRange (a b c : ℤ) : Type 0 where
 -- no line splits the ends, as two to four of them show
 pub record IsBarredBy (es : List EndPoints) (e : Evidence) : Type 0 where
   pub no_line : ¬ IsSplittable es
-  pub blocks : Blocks es e
+  pub blocks : BlocksEnds es e
   pub pairs : List EndPair
   pub evidence : IsEvidenceOf pairs e
 
 -- the list has the portal where a line splits its ends and all others; else it is as it was, and stuck ends show that none does
-abbrev pub IsPassed : List EndPoints → EndPoints → List EndPoints → Result Passed Memory → Type 0
-IsPassed old e new (Ok Open) = (new ≡ old ++ e ∷ []) × IsSplittable (old ++ e ∷ [])
-IsPassed old e new (Ok (Stuck evidence)) = (new ≡ old) × IsBarredBy (old ++ e ∷ []) evidence
-IsPassed old e new (Err r) = new ≡ old
+abbrev pub IsPortalPassed : List EndPoints → EndPoints → List EndPoints → Result Passed Memory → Type 0
+IsPortalPassed old e new (Ok Open) = (new ≡ old ++ e ∷ []) × IsSplittable (old ++ e ∷ [])
+IsPortalPassed old e new (Ok (Stuck evidence)) = (new ≡ old) × IsBarredBy (old ++ e ∷ []) evidence
+IsPortalPassed old e new (Err r) = new ≡ old

@@ -12,7 +12,7 @@ abbrev pub kept_ends : List Kept → List EndAt
 kept_ends ks = map (λ (k : Kept). k.end) ks
 
 -- from each end a step goes back to one before it, and from the first one beyond it; all ends between lie between these two
-pub record HasSteps (ks : List Kept) : Type 0 where
+pub record HasChainSteps (ks : List Kept) : Type 0 where
   pub within : (n : ℕ) (k : Kept) → slice_get ks n ≡ Some k → (0 < k.step) × (k.step ≤ n + 1)
   pub first : (n : ℕ) (k : Kept) → slice_get ks n ≡ Some k → k.step ≡ n + 1 → n ≡ 0
   pub between : (m i n : ℕ) (a b c : Kept) → slice_get ks m ≡ Some a → slice_get ks i ≡ Some b → slice_get ks n ≡ Some c → m + c.step ≡ n → m < i → i < n → LiesBetween a.end.at b.end.at c.end.at

@@ -15,13 +15,13 @@ pub record IsFrameOf (es : List EndPoints) (lefts rights : List EndAt) (cones : 
   pub hull : IsHullOf es (take f.lefts lefts) (take f.rights rights) (take f.cones cones)
 
 -- so much of the stacks is of the portals up to the frame
-pub record Counts (ls rs : List EndAt) (cs : List Cone) (f : Frame) : Type 0 where
+pub record CountsStacks (ls rs : List EndAt) (cs : List Cone) (f : Frame) : Type 0 where
   pub lefts : f.lefts ≡ length ls
   pub rights : f.rights ≡ length rs
   pub cones : f.cones ≡ length cs
 
 -- the first frame says no more of the stacks than the second
-pub record IsWithin (f g : Frame) : Type 0 where
+pub record IsFrameWithin (f g : Frame) : Type 0 where
   pub lefts : f.lefts ≤ g.lefts
   pub rights : f.rights ≤ g.rights
   pub cones : f.cones ≤ g.cones
@@ -29,4 +29,4 @@ pub record IsWithin (f g : Frame) : Type 0 where
 -- each frame has on the stacks what is of the portals up to its own
 pub record IsHistory (fs : List Frame) (lefts rights : List EndAt) (cones : List Cone) : Type 0 where
   pub frames : (k : ℕ) (f : Frame) → slice_get fs k ≡ Some f → IsFrameOf (take (k + 1) (portals_of fs)) lefts rights cones f
-  pub order : (k m : ℕ) (f g : Frame) → k ≤ m → slice_get fs k ≡ Some f → slice_get fs m ≡ Some g → IsWithin f g
+  pub order : (k m : ℕ) (f g : Frame) → k ≤ m → slice_get fs k ≡ Some f → slice_get fs m ≡ Some g → IsFrameWithin f g

@@ -16,8 +16,8 @@ use Rattle.stab_hull.specs.declared.turning.Turn.{Turn}
 use Rattle.stab_hull.specs.declared.turning.Turn.TheVariants as turn
 use Rattle.stab_hull.specs.declared.Passed.{Passed}
 use Rattle.stab_hull.specs.declared.Passed.TheVariants as passed
-use Rattle.stab_hull.specs.Answer.{IsPassed, IsBarredBy}
-use Rattle.stab_hull.specs.History.{Counts, IsHistory}
+use Rattle.stab_hull.specs.Answer.{IsPortalPassed, IsBarredBy}
+use Rattle.stab_hull.specs.History.{CountsStacks, IsHistory}
 use Rattle.stab_hull.specs.Portals.{portals_of}
 use Rattle.stab_hull.specs.Stacks.{CoversLeft, CoversRight, IsTopCone}
 use Rattle.stab_hull.specs.Turning.{MovesRight, MovesLeft}
@@ -25,7 +25,7 @@ use Rattle.stab_hull.specs.Turning.{MovesRight, MovesLeft}
 -- the stacks have what is of these portals alone
 pub record IsSleeve (fs : List Frame) (ls rs : List EndAt) (cs : List Cone) : Type 0 where
   pub history : IsHistory fs ls rs cs
-  pub exact : (f : Frame) → slice_get fs (length fs - 1) ≡ Some f → Counts ls rs cs f
+  pub exact : (f : Frame) → slice_get fs (length fs - 1) ≡ Some f → CountsStacks ls rs cs f
 
 -- the last portal has this left end
 abbrev pub HasLastLeft : List EndPoints → Pt → Type 0
@@ -76,18 +76,18 @@ tells_of (turn.Stuck e) = Stuck e
 tells_of turn.Unseen = Unseen
 
 -- what a search tells of a portal, as what is told without one
-abbrev pub told_of : Result Passed Memory → Result Told Memory
-told_of (Ok passed.Open) = Ok told.Open
-told_of (Ok (passed.Stuck e)) = Ok (told.Stuck e)
-told_of (Err m) = Err m
+abbrev pub told_of_search : Result Passed Memory → Result Told Memory
+told_of_search (Ok passed.Open) = Ok told.Open
+told_of_search (Ok (passed.Stuck e)) = Ok (told.Stuck e)
+told_of_search (Err m) = Err m
 
 -- the list has the portal where a line splits its ends and all others; else it is as it was, and stuck ends show that none
 -- does, or nothing is told
-abbrev pub IsTold : List EndPoints → EndPoints → List EndPoints → Result Told Memory → Type 0
-IsTold old e new (Ok told.Open) = IsPassed old e new (Ok passed.Open)
-IsTold old e new (Ok (told.Stuck evidence)) = IsPassed old e new (Ok (passed.Stuck evidence))
-IsTold old e new (Ok told.Unseen) = new ≡ old
-IsTold old e new (Err m) = new ≡ old
+abbrev pub IsPortalTold : List EndPoints → EndPoints → List EndPoints → Result Told Memory → Type 0
+IsPortalTold old e new (Ok told.Open) = IsPortalPassed old e new (Ok passed.Open)
+IsPortalTold old e new (Ok (told.Stuck evidence)) = IsPortalPassed old e new (Ok (passed.Stuck evidence))
+IsPortalTold old e new (Ok told.Unseen) = new ≡ old
+IsPortalTold old e new (Err m) = new ≡ old
 
 -- and the note of the portal where it has the portal
 abbrev pub IsNotedOn : {N : Type 0} → List N → N → List N → Result Told Memory → Type 0
@@ -98,36 +98,36 @@ IsNotedOn old n new (Err m) = new ≡ old
 
 -- ---- portals with notes
 
-abbrev pub frame_of : {N : Type 0} → Noted N → Frame
-frame_of x = x.frame
+abbrev pub noted_frame : {N : Type 0} → Noted N → Frame
+noted_frame x = x.frame
 
 abbrev pub note_of : {N : Type 0} → Noted N → N
 note_of x = x.note
 
 abbrev pub frames_of : {N : Type 0} → List (Noted N) → List Frame
-frames_of xs = map frame_of xs
+frames_of xs = map noted_frame xs
 
 -- the portal is stacked with its ends where a line passes it and all before
 pub record GoesBy (old : List EndPoints) (e : EndPoints) (fs : List Frame) (ls rs : List EndAt) (cs : List Cone) (r : Result Told Memory) : Type 0 where
   pub sleeve : IsSleeve fs ls rs cs
-  pub told : IsTold old e (portals_of fs) r
+  pub told : IsPortalTold old e (portals_of fs) r
 
 -- and with its note
-pub record GoesOn {N : Type 0} (old : List (Noted N)) (n : N) (e : EndPoints) (new : List (Noted N)) (ls rs : List EndAt) (cs : List Cone) (r : Result Told Memory) : Type 0 where
+pub record GoesOnWithNote {N : Type 0} (old : List (Noted N)) (n : N) (e : EndPoints) (new : List (Noted N)) (ls rs : List EndAt) (cs : List Cone) (r : Result Told Memory) : Type 0 where
   pub sleeve : IsSleeve (frames_of new) ls rs cs
-  pub told : IsTold (portals_of (frames_of old)) e (portals_of (frames_of new)) r
+  pub told : IsPortalTold (portals_of (frames_of old)) e (portals_of (frames_of new)) r
   pub noted : IsNotedOn (map note_of old) n (map note_of new) r
 
 abbrev pub IsTrack : {N : Type 0} → Track N → Type 0
 IsTrack t = IsSleeve (frames_of t.portals.items) t.hull.lefts t.hull.rights t.hull.cones.items
 
-abbrev pub ends_of : {N : Type 0} → Track N → List EndPoints
-ends_of t = portals_of (frames_of t.portals.items)
+abbrev pub ends_of_track : {N : Type 0} → Track N → List EndPoints
+ends_of_track t = portals_of (frames_of t.portals.items)
 
 abbrev pub notes_of : {N : Type 0} → Track N → List N
 notes_of t = map note_of t.portals.items
 
 -- the same of a whole track
 pub record GoesOnTo {N : Type 0} (old : Track N) (n : N) (e : EndPoints) (new : Track N) (r : Result Told Memory) : Type 0 where
-  pub told : IsTold (ends_of old) e (ends_of new) r
+  pub told : IsPortalTold (ends_of_track old) e (ends_of_track new) r
   pub noted : IsNotedOn (notes_of old) n (notes_of new) r

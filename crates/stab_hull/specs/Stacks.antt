@@ -9,12 +9,12 @@ use Rattle.plane_base.specs.Arrows.{Arrow, cross}
 use Rattle.geom_exact.specs.declared.extreme_lines.cone.Cone.{Cone}
 use Rattle.geom_exact.specs.declared.extreme_lines.cone.Cone.TheVariants.{Ray, Open}
 use Rattle.geom_exact.specs.ExtremeLines.Differences.{difference}
-use Rattle.geom_exact.specs.ExtremeLines.Spans.{Spans, arrow_of, first_of, second_of, pair_of}
+use Rattle.geom_exact.specs.ExtremeLines.Spans.{Spans, arrow_of, first_extreme, second_of, end_pair_of}
 use Rattle.stab_hull.specs.declared.step.Step.{Step}
 use Rattle.stab_hull.specs.declared.step.Step.TheVariants.{Same, Wider, Stuck}
 
-abbrev pub IsAmong : List EndAt → EndAt → Type 0
-IsAmong ends e = (m : ℕ) × (slice_get ends m ≡ Some e)
+abbrev pub IsAmongEnds : List EndAt → EndAt → Type 0
+IsAmongEnds ends e = (m : ℕ) × (slice_get ends m ≡ Some e)
 
 -- one of the ends is at this point
 abbrev pub HasPoint : List EndAt → Pt → Type 0
@@ -22,16 +22,16 @@ HasPoint ends p = (m : ℕ) × (e : EndAt) × (slice_get ends m ≡ Some e) × (
 
 -- a pair of one of the left ends and one of the right ends
 abbrev pub IsPairAmong : List EndAt → List EndAt → EndPair → Type 0
-IsPairAmong lefts rights p = IsAmong lefts p.left × IsAmong rights p.right
+IsPairAmong lefts rights p = IsAmongEnds lefts p.left × IsAmongEnds rights p.right
 
 -- the cone has the difference of each left end and each right end
 abbrev pub SpansEnds : List EndAt → List EndAt → Cone → Type 0
-SpansEnds lefts rights c = (l r : EndAt) → IsAmong lefts l → IsAmong rights r → Spans c (difference l.at r.at)
+SpansEnds lefts rights c = (l r : EndAt) → IsAmongEnds lefts l → IsAmongEnds rights r → Spans c (difference l.at r.at)
 
 -- the extreme lines of a cone are lines from right ends to left ends
 pub record IsOfEnds (lefts rights : List EndAt) (c : Cone) : Type 0 where
-  pub first : IsPairAmong lefts rights (pair_of (first_of c))
-  pub second : IsPairAmong lefts rights (pair_of (second_of c))
+  pub first : IsPairAmong lefts rights (end_pair_of (first_extreme c))
+  pub second : IsPairAmong lefts rights (end_pair_of (second_of c))
 
 -- the cone of these ends
 pub record IsConeOfEnds (lefts rights : List EndAt) (c : Cone) : Type 0 where
@@ -54,8 +54,8 @@ abbrev pub IsTopCone : List EndAt → List EndAt → List Cone → Type 0
 IsTopCone lefts rights cones = (c : Cone) × (slice_get cones (length cones - 1) ≡ Some c) × IsConeOfEnds lefts rights c
 
 -- an end has come to the list, but where the list has its point
-abbrev pub IsAdded : List EndAt → EndAt → List EndAt → Type 0
-IsAdded old e new = (new ≡ old ++ e ∷ []) ⊎ ((new ≡ old) × HasPoint old e.at)
+abbrev pub IsEndAdded : List EndAt → EndAt → List EndAt → Type 0
+IsEndAdded old e new = (new ≡ old ++ e ∷ []) ⊎ ((new ≡ old) × HasPoint old e.at)
 
 -- the new list begins with the first n of the old one
 abbrev pub KeepsFirst : {X : Type 0} → ℕ → List X → List X → Type 0

@@ -6,7 +6,7 @@ use Rattle.block_evidence.specs.Picked.{Picks}
 use Rattle.geom_exact.specs.declared.extreme_lines.cone.Cone.{Cone}
 use Rattle.geom_exact.specs.declared.extreme_lines.cone.Cone.TheVariants.{Open}
 use Rattle.geom_exact.specs.declared.extreme_lines.wedge.Wedge.{Wedge}
-use Rattle.geom_exact.specs.ExtremeLines.Spans.{form_at, pair_of}
+use Rattle.geom_exact.specs.ExtremeLines.Spans.{form_at, end_pair_of}
 use Rattle.stab_hull.specs.Barred.{ends_and}
 use Rattle.stab_hull.specs.Stacks.{IsConeOfEnds}
 use Rattle.stab_hull.specs.declared.turning.Turn.{Turn}
@@ -17,7 +17,7 @@ abbrev pub IsRightTurn : Wedge → EndAt → Turn → Type 0
 IsRightTurn w new Covered = (form_at w.first new.at <ℤ pos 0) × (form_at w.second w.first.right.at ≤ℤ form_at w.second new.at)
 IsRightTurn w new Same = (form_at w.first new.at <ℤ pos 0) × (pos 0 <ℤ form_at w.second new.at)
 IsRightTurn w new Moves = form_at w.first new.at <ℤ pos 0
-IsRightTurn w new (Stuck e) = BarsRight (pair_of w.first) (pair_of w.second) new × Picks (ends_and w new) e
+IsRightTurn w new (Stuck e) = BarsRight (end_pair_of w.first) (end_pair_of w.second) new × Picks (ends_and w new) e
 IsRightTurn w new Unseen = Unit {0}
 
 -- of a left end, the other way round
@@ -25,7 +25,7 @@ abbrev pub IsLeftTurn : Wedge → EndAt → Turn → Type 0
 IsLeftTurn w new Covered = (form_at w.second new.at <ℤ pos 0) × (form_at w.first w.second.left.at ≤ℤ form_at w.first new.at)
 IsLeftTurn w new Same = (pos 0 <ℤ form_at w.first new.at) × (form_at w.second new.at <ℤ pos 0)
 IsLeftTurn w new Moves = form_at w.second new.at <ℤ pos 0
-IsLeftTurn w new (Stuck e) = BarsLeft (pair_of w.first) (pair_of w.second) new × Picks (ends_and w new) e
+IsLeftTurn w new (Stuck e) = BarsLeft (end_pair_of w.first) (end_pair_of w.second) new × Picks (ends_and w new) e
 IsLeftTurn w new Unseen = Unit {0}
 
 -- the last of the cones has two lines, and the new right end is right of the first one

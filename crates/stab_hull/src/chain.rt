@@ -2,7 +2,7 @@
 //! line needn't be looked at, so that a straight row of many portals has few ends to look at.
 
 ghost use Rattle.std.specs.Prelude.{◌≡◌, ◌≤◌, ◌<◌, ◌^◌, ◌++◌, ◌∷◌, [], ◌-ℤ◌, ◌*ℤ◌, take, length, unsigned_abs, OnOk, OnErr, IsTrue};
-ghost use Rattle.stab_hull.specs.Chains.{HasSteps, LiesBetween, kept_ends};
+ghost use Rattle.stab_hull.specs.Chains.{HasChainSteps, LiesBetween, kept_ends};
 
 use sight_names::{EndAt, Memory, Pt};
 use std::alloc::Global;
@@ -33,11 +33,11 @@ impl Model for Chain {
 
     ghost Value = { List End };
 
-    ghost use Rattle.stab_hull.specs.Chains.{HasSteps, kept_ends};
+    ghost use Rattle.stab_hull.specs.Chains.{HasChainSteps, kept_ends};
 
     ghost view = { λ s. kept_ends s.kept.items };
 
-    ghost invariant = { λ s. HasSteps s.kept.items };
+    ghost invariant = { λ s. HasChainSteps s.kept.items };
 }
 
 /// The way from `a` to `b`.
@@ -82,8 +82,8 @@ fn is_between(a: Pt, b: Pt, c: Pt) -> bool
 #[inline(never)]
 fn mend(kept: &mut Vec<Kept>)
     requires many { 1 < length kept.old.items }
-    requires steps { HasSteps kept.old.items }
-    ensures steps { HasSteps kept.new.items }
+    requires steps { HasChainSteps kept.old.items }
+    ensures steps { HasChainSteps kept.new.items }
     ensures ends { kept_ends kept.new.items ≡ kept_ends kept.old.items }
 {
     let last = kept.len() - 1;
@@ -118,7 +118,7 @@ impl Chain {
     /// The ends with their steps.
     #[inline(always)]
     pub fn as_slice(&self) -> &[Kept]
-        ensures steps { HasSteps result.now }
+        ensures steps { HasChainSteps result.now }
         ensures ends { kept_ends result.now ≡ self.now }
     {
         self.kept.as_slice()

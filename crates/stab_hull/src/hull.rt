@@ -2,7 +2,7 @@
 
 ghost use Rattle.std.specs.Prelude.{◌≡◌, ◌++◌, ◌∷◌, [], length, take, IsTrue, IfOk, MatchOption, ◌≢◌};
 ghost use Rattle.stab_hull.specs.Chains.{kept_ends};
-ghost use Rattle.stab_hull.specs.Stacks.{HasPoint, IsAdded, IsTopCone, AreStuckAmong, KeepsFirst};
+ghost use Rattle.stab_hull.specs.Stacks.{HasPoint, IsEndAdded, IsTopCone, AreStuckAmong, KeepsFirst};
 
 use crate::chain::{Chain, Kept};
 use crate::frame::Frame;
@@ -66,7 +66,7 @@ impl Hull {
         ensures lefts { KeepsFirst (length self.old.lefts) self.old.lefts self.new.lefts }
         ensures rights { self.new.rights ≡ self.old.rights }
         ensures cones { KeepsFirst (length self.old.cones.items) self.old.cones.items self.new.cones.items }
-        ensures free { IfOk result (λ stuck. MatchOption stuck (IsTopCone self.new.lefts self.old.rights self.new.cones.items × IsAdded self.old.lefts left self.new.lefts) (λ pairs. AreStuckAmong (self.old.lefts ++ left ∷ []) self.old.rights pairs)) }
+        ensures free { IfOk result (λ stuck. MatchOption stuck (IsTopCone self.new.lefts self.old.rights self.new.cones.items × IsEndAdded self.old.lefts left self.new.lefts) (λ pairs. AreStuckAmong (self.old.lefts ++ left ∷ []) self.old.rights pairs)) }
     {
         if repeats(self.lefts.as_slice(), left.at) {
             return Ok(None);
@@ -87,7 +87,7 @@ impl Hull {
         ensures lefts { self.new.lefts ≡ self.old.lefts }
         ensures rights { KeepsFirst (length self.old.rights) self.old.rights self.new.rights }
         ensures cones { KeepsFirst (length self.old.cones.items) self.old.cones.items self.new.cones.items }
-        ensures free { IfOk result (λ stuck. MatchOption stuck (IsTopCone self.old.lefts self.new.rights self.new.cones.items × IsAdded self.old.rights right self.new.rights) (λ pairs. AreStuckAmong self.old.lefts (self.old.rights ++ right ∷ []) pairs)) }
+        ensures free { IfOk result (λ stuck. MatchOption stuck (IsTopCone self.old.lefts self.new.rights self.new.cones.items × IsEndAdded self.old.rights right self.new.rights) (λ pairs. AreStuckAmong self.old.lefts (self.old.rights ++ right ∷ []) pairs)) }
     {
         if repeats(self.rights.as_slice(), right.at) {
             return Ok(None);
@@ -108,7 +108,7 @@ impl Hull {
         ensures lefts { KeepsFirst (length self.old.lefts) self.old.lefts self.new.lefts }
         ensures rights { KeepsFirst (length self.old.rights) self.old.rights self.new.rights }
         ensures cones { KeepsFirst (length self.old.cones.items) self.old.cones.items self.new.cones.items }
-        ensures free { IfOk result (λ stuck. MatchOption stuck (IsTopCone self.new.lefts self.new.rights self.new.cones.items × IsAdded self.old.lefts left self.new.lefts × IsAdded self.old.rights right self.new.rights) (λ pairs. AreStuckAmong (self.old.lefts ++ left ∷ []) (self.old.rights ++ right ∷ []) pairs)) }
+        ensures free { IfOk result (λ stuck. MatchOption stuck (IsTopCone self.new.lefts self.new.rights self.new.cones.items × IsEndAdded self.old.lefts left self.new.lefts × IsEndAdded self.old.rights right self.new.rights) (λ pairs. AreStuckAmong (self.old.lefts ++ left ∷ []) (self.old.rights ++ right ∷ []) pairs)) }
     {
         match self.add_left(left)? {
             Some(pairs) => Ok(Some(pairs)),

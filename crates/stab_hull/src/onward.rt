@@ -2,7 +2,7 @@
 
 ghost use Rattle.std.specs.Prelude.{◌≡◌, ◌≢◌, ◌+◌, ◌<◌, length};
 ghost use Rattle.stab_hull.specs.Portals.{portals_of};
-ghost use Rattle.stab_hull.specs.Sleeves.{IsSleeve, IsCoveredLeft, IsCoveredRight, HasLastLeft, HasLastRight, TakesRight, TakesLeft, TellsRight, TellsLeft, GoesOn, frames_of, tells_of, told_of};
+ghost use Rattle.stab_hull.specs.Sleeves.{IsSleeve, IsCoveredLeft, IsCoveredRight, HasLastLeft, HasLastRight, TakesRight, TakesLeft, TellsRight, TellsLeft, GoesOnWithNote, frames_of, tells_of, told_of_search};
 
 use crate::Passed;
 use crate::frame::{Frame, Noted};
@@ -124,7 +124,7 @@ fn pass_right<N: Copy>(
     requires few { length portals.old.items < RIGHT_END }
     requires code { new.code ≡ length portals.old.items + RIGHT_END }
     requires covered { IsCoveredRight hull.now.rights hull.now.cones.items new.at }
-    ensures { GoesOn portals.old.items note (record { left = left; right = new.at }) portals.new.items hull.now.lefts hull.now.rights hull.now.cones.items result }
+    ensures { GoesOnWithNote portals.old.items note (record { left = left; right = new.at }) portals.new.items hull.now.lefts hull.now.rights hull.now.cones.items result }
 {
     portals.reserve(1)?;
     let frame = frame_to_right(portals.as_slice(), hull, left, new.at);
@@ -146,7 +146,7 @@ fn pass_left<N: Copy>(
     requires few { length portals.old.items < RIGHT_END }
     requires code { new.code ≡ length portals.old.items }
     requires covered { IsCoveredLeft hull.now.lefts hull.now.cones.items new.at }
-    ensures { GoesOn portals.old.items note (record { left = new.at; right = right }) portals.new.items hull.now.lefts hull.now.rights hull.now.cones.items result }
+    ensures { GoesOnWithNote portals.old.items note (record { left = new.at; right = right }) portals.new.items hull.now.lefts hull.now.rights hull.now.cones.items result }
 {
     portals.reserve(1)?;
     let frame = frame_to_left(portals.as_slice(), hull, new.at, right);
@@ -169,7 +169,7 @@ fn add_right<N: Copy>(
     requires few { length portals.old.items < RIGHT_END }
     requires code { new.code ≡ length portals.old.items + RIGHT_END }
     requires takes { TakesRight hull.old.lefts hull.old.rights hull.old.cones.items new moves }
-    ensures { GoesOn portals.old.items note (record { left = left; right = new.at }) portals.new.items hull.new.lefts hull.new.rights hull.new.cones.items result }
+    ensures { GoesOnWithNote portals.old.items note (record { left = left; right = new.at }) portals.new.items hull.new.lefts hull.new.rights hull.new.cones.items result }
 {
     portals.reserve(1)?;
     let count = hull.rights.len();
@@ -209,7 +209,7 @@ fn add_left<N: Copy>(
     requires few { length portals.old.items < RIGHT_END }
     requires code { new.code ≡ length portals.old.items }
     requires takes { TakesLeft hull.old.lefts hull.old.rights hull.old.cones.items new moves }
-    ensures { GoesOn portals.old.items note (record { left = new.at; right = right }) portals.new.items hull.new.lefts hull.new.rights hull.new.cones.items result }
+    ensures { GoesOnWithNote portals.old.items note (record { left = new.at; right = right }) portals.new.items hull.new.lefts hull.new.rights hull.new.cones.items result }
 {
     portals.reserve(1)?;
     let count = hull.lefts.len();
@@ -247,7 +247,7 @@ pub fn add_by_search<N: Copy>(
     requires there { 0 < length portals.old.items }
     requires few { length portals.old.items < RIGHT_END }
     requires proper { left ≢ right }
-    ensures { GoesOn portals.old.items note (record { left = left; right = right }) portals.new.items hull.new.lefts hull.new.rights hull.new.cones.items (told_of result) }
+    ensures { GoesOnWithNote portals.old.items note (record { left = left; right = right }) portals.new.items hull.new.lefts hull.new.rights hull.new.cones.items (told_of_search result) }
 {
     portals.reserve(1)?;
     let top = portals[portals.len() - 1].frame;
@@ -279,7 +279,7 @@ pub fn add_by_search<N: Copy>(
 
 /// Adds the portal from the last left end to this right end, where a line passes it and all others.
 #[inline(always)]
-pub fn go_left<N: Copy>(
+pub fn add_by_new_right<N: Copy>(
     portals: &mut Vec<Noted<N>>,
     hull: &mut Hull,
     left: Pt,
@@ -290,7 +290,7 @@ pub fn go_left<N: Copy>(
     requires last { HasLastLeft (portals_of (frames_of portals.old.items)) left }
     requires few { length portals.old.items < RIGHT_END }
     requires proper { left ≢ right }
-    ensures { GoesOn portals.old.items note (record { left = left; right = right }) portals.new.items hull.new.lefts hull.new.rights hull.new.cones.items result }
+    ensures { GoesOnWithNote portals.old.items note (record { left = left; right = right }) portals.new.items hull.new.lefts hull.new.rights hull.new.cones.items result }
 {
     let new = EndAt {
         code: portals.len() as u16 + RIGHT_END,
@@ -306,7 +306,7 @@ pub fn go_left<N: Copy>(
 
 /// Adds the portal from this left end to the last right end, where a line passes it and all others.
 #[inline(always)]
-pub fn go_right<N: Copy>(
+pub fn add_by_new_left<N: Copy>(
     portals: &mut Vec<Noted<N>>,
     hull: &mut Hull,
     left: Pt,
@@ -317,7 +317,7 @@ pub fn go_right<N: Copy>(
     requires last { HasLastRight (portals_of (frames_of portals.old.items)) right }
     requires few { length portals.old.items < RIGHT_END }
     requires proper { left ≢ right }
-    ensures { GoesOn portals.old.items note (record { left = left; right = right }) portals.new.items hull.new.lefts hull.new.rights hull.new.cones.items result }
+    ensures { GoesOnWithNote portals.old.items note (record { left = left; right = right }) portals.new.items hull.new.lefts hull.new.rights hull.new.cones.items result }
 {
     let new = EndAt {
         code: portals.len() as u16,

@@ -2,7 +2,7 @@
 
 ghost use Rattle.std.specs.Prelude.{◌≡◌, ◌≢◌, ◌∷◌, [], ◌<◌, ◌≤◌, length, take, OnOk, OnErr};
 ghost use Rattle.sight_names.specs.Splitting.{SplitsEnds};
-ghost use Rattle.stab_hull.specs.Answer.{IsPassed, IsLineInRange};
+ghost use Rattle.stab_hull.specs.Answer.{IsPortalPassed, IsLineInRange};
 ghost use Rattle.stab_hull.specs.Sleeves.{HasLastLeft, HasLastRight};
 
 use crate::Passed;
@@ -24,9 +24,9 @@ impl Model for Sleeve {
 
     ghost Value = { List EndPoints };
 
-    ghost use Rattle.stab_hull.specs.Sleeves.{IsTrack, ends_of};
+    ghost use Rattle.stab_hull.specs.Sleeves.{IsTrack, ends_of_track};
 
-    ghost view = { λ s. ends_of s.track };
+    ghost view = { λ s. ends_of_track s.track };
 
     ghost invariant = { λ s. IsTrack s.track };
 }
@@ -62,13 +62,13 @@ impl Sleeve {
     /// does, the list stays as it was, and stuck ends show it.
     // in line, since a walk does this or the other at each node
     #[inline(always)]
-    pub fn by_left(&mut self, left: Pt, right: Pt) -> Result<Passed, Memory>
+    pub fn by_new_right(&mut self, left: Pt, right: Pt) -> Result<Passed, Memory>
         requires last { HasLastLeft self.old left }
         requires room { length self.old < RIGHT_END }
         requires proper { left ≢ right }
-        ensures { IsPassed self.old (record { left = left; right = right }) self.new result }
+        ensures { IsPortalPassed self.old (record { left = left; right = right }) self.new result }
     {
-        match self.track.by_left((), left, right)? {
+        match self.track.by_new_right((), left, right)? {
             Told::Open => Ok(Passed::Open),
             Told::Stuck(evidence) => Ok(Passed::Stuck(evidence)),
             Told::Unseen => self.track.by_search((), left, right),
@@ -77,13 +77,13 @@ impl Sleeve {
 
     /// The same from this left end to the last right end.
     #[inline(always)]
-    pub fn by_right(&mut self, left: Pt, right: Pt) -> Result<Passed, Memory>
+    pub fn by_new_left(&mut self, left: Pt, right: Pt) -> Result<Passed, Memory>
         requires last { HasLastRight self.old right }
         requires room { length self.old < RIGHT_END }
         requires proper { left ≢ right }
-        ensures { IsPassed self.old (record { left = left; right = right }) self.new result }
+        ensures { IsPortalPassed self.old (record { left = left; right = right }) self.new result }
     {
-        match self.track.by_right((), left, right)? {
+        match self.track.by_new_left((), left, right)? {
             Told::Open => Ok(Passed::Open),
             Told::Stuck(evidence) => Ok(Passed::Stuck(evidence)),
             Told::Unseen => self.track.by_search((), left, right),

@@ -3,7 +3,7 @@
 ghost use Rattle.std.specs.Prelude.{List, ◌≡◌, ◌++◌, ◌∷◌, [], pos, ◌<ℤ◌};
 ghost use Rattle.sight_names.specs.declared.names.EndAt.{EndAt as End};
 ghost use Rattle.geom_exact.specs.declared.extreme_lines.cone.Cone.TheVariants.{Open};
-ghost use Rattle.stab_hull.specs.Chains.{HasSteps, kept_ends};
+ghost use Rattle.stab_hull.specs.Chains.{HasChainSteps, kept_ends};
 ghost use Rattle.stab_hull.specs.Stacks.{IsConeOfEnds, IsStepTo};
 ghost use Rattle.geom_exact.specs.ExtremeLines.Spans.{form_at};
 
@@ -48,7 +48,7 @@ fn second_to_left(wedge: &Wedge, rights: &[Kept], left: EndAt) -> Wedge
 #[inline(always)]
 pub fn first_to_left(wedge: &Wedge, rights: &[Kept], again: &[Kept], left: EndAt) -> Wedge
     requires again { again.now ≡ rights.now }
-    requires steps { HasSteps rights.now }
+    requires steps { HasChainSteps rights.now }
     requires cone { (lefts : List End) × IsConeOfEnds lefts (kept_ends rights.now) (Open wedge.now) }
     requires beyond { form_at wedge.now.second left.at <ℤ pos 0 }
     ensures { (lefts : List End) → IsConeOfEnds lefts (kept_ends rights.now) (Open wedge.now) → IsConeOfEnds (lefts ++ left ∷ []) (kept_ends rights.now) (Open result) }
@@ -78,7 +78,7 @@ pub fn first_to_left(wedge: &Wedge, rights: &[Kept], again: &[Kept], left: EndAt
 #[inline(always)]
 pub fn second_to_right(wedge: &Wedge, lefts: &[Kept], again: &[Kept], right: EndAt) -> Wedge
     requires again { again.now ≡ lefts.now }
-    requires steps { HasSteps lefts.now }
+    requires steps { HasChainSteps lefts.now }
     requires cone { (rights : List End) × IsConeOfEnds (kept_ends lefts.now) rights (Open wedge.now) }
     requires beyond { form_at wedge.now.first right.at <ℤ pos 0 }
     ensures { (rights : List End) → IsConeOfEnds (kept_ends lefts.now) rights (Open wedge.now) → IsConeOfEnds (kept_ends lefts.now) (rights ++ right ∷ []) (Open result) }
@@ -156,7 +156,7 @@ fn right_against_each(cone: &Cone, lefts: &[Kept], right: EndAt) -> Step
 
 /// The cone with the lines from all right ends to the new left end.
 fn left_against_all(cone: &Cone, rights: &[Kept], left: EndAt) -> Step
-    requires steps { HasSteps rights.now }
+    requires steps { HasChainSteps rights.now }
     requires cone { (lefts : List End) × IsConeOfEnds lefts (kept_ends rights.now) cone.now }
     ensures { (lefts : List End) → IsConeOfEnds lefts (kept_ends rights.now) cone.now → IsStepTo (lefts ++ left ∷ []) (kept_ends rights.now) cone.now result }
 {
@@ -173,7 +173,7 @@ fn left_against_all(cone: &Cone, rights: &[Kept], left: EndAt) -> Step
 
 /// The cone with the lines from the new right end to all left ends.
 fn right_against_all(cone: &Cone, lefts: &[Kept], right: EndAt) -> Step
-    requires steps { HasSteps lefts.now }
+    requires steps { HasChainSteps lefts.now }
     requires cone { (rights : List End) × IsConeOfEnds (kept_ends lefts.now) rights cone.now }
     ensures { (rights : List End) → IsConeOfEnds (kept_ends lefts.now) rights cone.now → IsStepTo (kept_ends lefts.now) (rights ++ right ∷ []) cone.now result }
 {
@@ -191,7 +191,7 @@ fn right_against_all(cone: &Cone, lefts: &[Kept], right: EndAt) -> Step
 /// What a new left end does. In a walk it lies right of the second line, where that line stays and the first one may move;
 /// or no line splits it from the right end of the second line. Only other left ends are looked at against all right ends.
 pub fn left_step(cone: &Cone, rights: &[Kept], left: EndAt) -> Step
-    requires steps { HasSteps rights.now }
+    requires steps { HasChainSteps rights.now }
     requires cone { (lefts : List End) × IsConeOfEnds lefts (kept_ends rights.now) cone.now }
     ensures { (lefts : List End) → IsConeOfEnds lefts (kept_ends rights.now) cone.now → IsStepTo (lefts ++ left ∷ []) (kept_ends rights.now) cone.now result }
 {
@@ -213,7 +213,7 @@ pub fn left_step(cone: &Cone, rights: &[Kept], left: EndAt) -> Step
 /// What a new right end does. In a walk it lies right of the first line, where that line stays and the second one may move;
 /// or no line splits it from the left end of the first line. Only other right ends are looked at against all left ends.
 pub fn right_step(cone: &Cone, lefts: &[Kept], right: EndAt) -> Step
-    requires steps { HasSteps lefts.now }
+    requires steps { HasChainSteps lefts.now }
     requires cone { (rights : List End) × IsConeOfEnds (kept_ends lefts.now) rights cone.now }
     ensures { (rights : List End) → IsConeOfEnds (kept_ends lefts.now) rights cone.now → IsStepTo (kept_ends lefts.now) (rights ++ right ∷ []) cone.now result }
 {

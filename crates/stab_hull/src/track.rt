@@ -4,13 +4,13 @@ ghost use Rattle.std.specs.Prelude.{◌≡◌, ◌≢◌, ◌∷◌, [], ◌<◌
 ghost use Rattle.sight_names.specs.Splitting.{EndPoints, SplitsEnds};
 ghost use Rattle.stab_hull.specs.Answer.{IsLineInRange};
 ghost use Rattle.stab_hull.specs.Portals.{IsConeOf};
-ghost use Rattle.stab_hull.specs.Sleeves.{GoesOnTo, HasLastLeft, HasLastRight, IsTrack, ends_of, notes_of, told_of};
+ghost use Rattle.stab_hull.specs.Sleeves.{GoesOnTo, HasLastLeft, HasLastRight, IsTrack, ends_of_track, notes_of, told_of_search};
 
 use crate::Passed;
 use crate::chain::Chain;
 use crate::frame::Noted;
 use crate::hull::{Hull, frame_over};
-use crate::onward::{Told, add_by_search, go_left, go_right};
+use crate::onward::{Told, add_by_new_left, add_by_new_right, add_by_search};
 use geom_exact::extreme_lines::Cone;
 use sight_names::{EndAt, Memory, Pt, RIGHT_END};
 use std::alloc::Global;
@@ -55,7 +55,7 @@ impl<N: Copy> Track<N> {
         requires first { self.old.portals.items ≡ [] }
         ensures track { IsTrack self.new }
         ensures notes { OnOk result (notes_of self.new ≡ note ∷ []) }
-        ensures ends { OnOk result (ends_of self.new ≡ record { left = left; right = right } ∷ []) }
+        ensures ends { OnOk result (ends_of_track self.new ≡ record { left = left; right = right } ∷ []) }
         ensures err { OnErr result (self.new.portals.items ≡ []) }
     {
         self.portals.reserve(1)?;
@@ -74,28 +74,28 @@ impl<N: Copy> Track<N> {
     /// does, the list stays as it was, and stuck ends show it, or it has to be searched for.
     // in line, since a walk does this or the other at each node
     #[inline(always)]
-    pub fn by_left(&mut self, note: N, left: Pt, right: Pt) -> Result<Told, Memory>
+    pub fn by_new_right(&mut self, note: N, left: Pt, right: Pt) -> Result<Told, Memory>
         requires track { IsTrack self.old }
-        requires last { HasLastLeft (ends_of self.old) left }
+        requires last { HasLastLeft (ends_of_track self.old) left }
         requires room { length self.old.portals.items < RIGHT_END }
         requires proper { left ≢ right }
         ensures track { IsTrack self.new }
         ensures goes { GoesOnTo self.old note (record { left = left; right = right }) self.new result }
     {
-        go_left(&mut self.portals, &mut self.hull, left, right, note)
+        add_by_new_right(&mut self.portals, &mut self.hull, left, right, note)
     }
 
     /// The same from this left end to the last right end.
     #[inline(always)]
-    pub fn by_right(&mut self, note: N, left: Pt, right: Pt) -> Result<Told, Memory>
+    pub fn by_new_left(&mut self, note: N, left: Pt, right: Pt) -> Result<Told, Memory>
         requires track { IsTrack self.old }
-        requires last { HasLastRight (ends_of self.old) right }
+        requires last { HasLastRight (ends_of_track self.old) right }
         requires room { length self.old.portals.items < RIGHT_END }
         requires proper { left ≢ right }
         ensures track { IsTrack self.new }
         ensures goes { GoesOnTo self.old note (record { left = left; right = right }) self.new result }
     {
-        go_right(&mut self.portals, &mut self.hull, left, right, note)
+        add_by_new_left(&mut self.portals, &mut self.hull, left, right, note)
     }
 
     /// The same of a portal with any ends, behind others, by a search that tells.
@@ -105,7 +105,7 @@ impl<N: Copy> Track<N> {
         requires room { length self.old.portals.items < RIGHT_END }
         requires proper { left ≢ right }
         ensures track { IsTrack self.new }
-        ensures goes { GoesOnTo self.old note (record { left = left; right = right }) self.new (told_of result) }
+        ensures goes { GoesOnTo self.old note (record { left = left; right = right }) self.new (told_of_search result) }
     {
         add_by_search(&mut self.portals, &mut self.hull, left, right, note)
     }
@@ -129,7 +129,7 @@ impl<N: Copy> Track<N> {
     pub fn line(&self) -> (i32, i32, i64)
         requires track { IsTrack self.now }
         requires there { 0 < length self.now.portals.items }
-        ensures splits { SplitsEnds (ends_of self.now) result.0 result.1 result.2 }
+        ensures splits { SplitsEnds (ends_of_track self.now) result.0 result.1 result.2 }
         ensures range { IsLineInRange result.0 result.1 result.2 }
     {
         line_of(&self.hull.cones[self.hull.cones.len() - 1])

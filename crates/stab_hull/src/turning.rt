@@ -3,8 +3,8 @@
 ghost use Rattle.std.specs.Prelude.{◌<◌, ◌++◌, ◌∷◌, [], length, List, OnErr, IfOk, ◌≡◌};
 ghost use Rattle.sight_names.specs.declared.names.EndAt.{EndAt as End};
 ghost use Rattle.block_evidence.specs.OneTurn.{AreLines};
-ghost use Rattle.geom_exact.specs.ExtremeLines.Spans.{pair_of};
-ghost use Rattle.stab_hull.specs.Chains.{HasSteps, kept_ends};
+ghost use Rattle.geom_exact.specs.ExtremeLines.Spans.{end_pair_of};
+ghost use Rattle.stab_hull.specs.Chains.{HasChainSteps, kept_ends};
 ghost use Rattle.stab_hull.specs.Stacks.{IsTopCone, KeepsFirst};
 ghost use Rattle.stab_hull.specs.Turning.{IsRightTurn, IsLeftTurn, MovesRight, MovesLeft};
 
@@ -33,7 +33,7 @@ pub enum Turn {
 /// What a new right end does.
 #[inline(always)]
 pub fn right_turn(wedge: &Wedge, new: EndAt) -> Turn
-    requires lines { AreLines (pair_of wedge.now.first) (pair_of wedge.now.second) }
+    requires lines { AreLines (end_pair_of wedge.now.first) (end_pair_of wedge.now.second) }
     requires later { wedge.now.first.right.code < new.code }
     requires later_too { wedge.now.second.right.code < new.code }
     ensures { IsRightTurn wedge.now new result }
@@ -57,7 +57,7 @@ pub fn right_turn(wedge: &Wedge, new: EndAt) -> Turn
 /// What a new left end does.
 #[inline(always)]
 pub fn left_turn(wedge: &Wedge, new: EndAt) -> Turn
-    requires lines { AreLines (pair_of wedge.now.first) (pair_of wedge.now.second) }
+    requires lines { AreLines (end_pair_of wedge.now.first) (end_pair_of wedge.now.second) }
     requires coded { new.code < RIGHT_END }
     requires later { wedge.now.first.left.code < new.code }
     requires later_too { wedge.now.second.left.code < new.code }
@@ -89,7 +89,7 @@ pub fn stack_right(
     right: EndAt,
 ) -> Result<(), Memory>
     requires again { again.now ≡ lefts.now }
-    requires steps { HasSteps lefts.now }
+    requires steps { HasChainSteps lefts.now }
     requires moves { MovesRight (kept_ends lefts.now) cones.old.items right }
     ensures kept { KeepsFirst (length cones.old.items) cones.old.items cones.new.items }
     ensures err { OnErr result (cones.new.items ≡ cones.old.items) }
@@ -114,7 +114,7 @@ pub fn stack_left(
     left: EndAt,
 ) -> Result<(), Memory>
     requires again { again.now ≡ rights.now }
-    requires steps { HasSteps rights.now }
+    requires steps { HasChainSteps rights.now }
     requires moves { MovesLeft (kept_ends rights.now) cones.old.items left }
     ensures kept { KeepsFirst (length cones.old.items) cones.old.items cones.new.items }
     ensures err { OnErr result (cones.new.items ≡ cones.old.items) }

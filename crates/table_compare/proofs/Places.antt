@@ -9,9 +9,9 @@ use Rattle.math_base.proofs.Bools.{both_true, false_where_not_true, first_true, 
 use Rattle.math_base.proofs.Numbers.{below_or_not, is_told_same, place_within, row_within, tells_same}
 use Rattle.sight_names.specs.declared.names.Pair.{Pair}
 use Rattle.sight_names.specs.Table.{IsTable, table_bit}
-use Rattle.reject_bits.specs.Parts.{IsWhole, TableParts}
+use Rattle.reject_bits.specs.Parts.{IsTableWhole, TableParts}
 use Rattle.table_compare.specs.Compared.{is_alone, IsFirstBelow, SetsAlone}
-use Rattle.table_compare.specs.Counts.{IsCountOf, IsFirst, IsFirstOf}
+use Rattle.table_compare.specs.Counts.{IsCountOf, IsFirstSuchPair, IsFirstOf}
 use Rattle.table_compare.proofs.Counting.{count_none, count_parts, count_rows}
 
 bits_tell : (x y : ℕ) → x < 2 → y < 2 → IsTrue ((x == 1) && (y == 0)) ↔ ((x ≡ 1) × ¬ (y ≡ 1))
@@ -36,7 +36,7 @@ short n bytes lt e = few (length bytes) (n * n) e (mul-lt n n 65536 65536 lt lt)
     few l m e h = omega arith
 
 -- tables of so many sectors have so many bytes
-pub same_length : (one other : TableParts) → other.n ≡ one.n → IsWhole one → IsWhole other → length other.bytes ≡ length one.bytes
+pub same_length : (one other : TableParts) → other.n ≡ one.n → IsTableWhole one → IsTableWhole other → length other.bytes ≡ length one.bytes
 same_length one other same whole too = too.len ∙ ap (λ (n : ℕ). div_ceil (n * n) 8) same ∙ sym whole.len
 
 -- the first below, by the bytes of the two
@@ -44,7 +44,7 @@ pub by_bytes : (one other : TableParts) (xs ys : List ℕ) (found : Option ℕ) 
 by_bytes one other xs ys found e f h =
     subst (λ (bs : List ℕ). IsFirstBelow (8 * length one.bytes) (is_alone one.bytes bs) found) f (subst (λ (bs : List ℕ). IsFirstBelow (8 * length bs) (is_alone bs ys) found) e h)
 
-module _ (one other : TableParts) (same : other.n ≡ one.n) (whole : IsWhole one) where
+module _ (one other : TableParts) (same : other.n ≡ one.n) (whole : IsTableWhole one) where
   abbrev is_at : ℕ → Bool
   is_at k = is_alone one.bytes other.bytes k
 
@@ -116,7 +116,7 @@ module _ (one other : TableParts) (same : other.n ≡ one.n) (whole : IsWhole on
       more : (x : ℕ) → b < d → x + b < x + d
       more x lt = omega arith
 
-  pub first_is : (place : ℕ) (pair : Pair) → IsFirstBelow (8 * length one.bytes) is_at (Some place) → pair.a < one.n → pair.b < one.n → place ≡ pair.a * one.n + pair.b → IsFirst one.n (SetsAlone one other) pair
+  pub first_is : (place : ℕ) (pair : Pair) → IsFirstBelow (8 * length one.bytes) is_at (Some place) → pair.a < one.n → pair.b < one.n → place ≡ pair.a * one.n + pair.b → IsFirstSuchPair one.n (SetsAlone one other) pair
   first_is place pair h row column e = record {
     row = row;
     column = column;

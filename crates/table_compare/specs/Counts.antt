@@ -15,7 +15,7 @@ pub record IsCountOf (n : ℕ) (P : ℕ → ℕ → Type 0) (count : ℕ) : Type
   pub passed : count ≡ pairs_by test n
 
 -- it is of this kind, and none before it is: by the first number, then by the second
-pub record IsFirst (n : ℕ) (P : ℕ → ℕ → Type 0) (pair : Pair) : Type 0 where
+pub record IsFirstSuchPair (n : ℕ) (P : ℕ → ℕ → Type 0) (pair : Pair) : Type 0 where
   pub row : pair.a < n
   pub column : pair.b < n
   pub is : P pair.a pair.b
@@ -23,5 +23,5 @@ pub record IsFirst (n : ℕ) (P : ℕ → ℕ → Type 0) (pair : Pair) : Type 0
 
 -- the first pair of this kind, or none exactly where there is none
 abbrev pub IsFirstOf : ℕ → (ℕ → ℕ → Type 0) → Option Pair → Type 0
-IsFirstOf n P (Some pair) = IsFirst n P pair
+IsFirstOf n P (Some pair) = IsFirstSuchPair n P pair
 IsFirstOf n P None = (a b : ℕ) → a < n → b < n → ¬ P a b

@@ -3,7 +3,7 @@
 
 ghost use Rattle.std.specs.Prelude.{◌≡◌, ◌≤◌, ◌<◌, ◌+◌, ◌*◌, ◌^◌, length};
 ghost use Rattle.std.specs.List.{count_by, range_with_len};
-ghost use Rattle.reject_bits.specs.Parts.{IsWhole};
+ghost use Rattle.reject_bits.specs.Parts.{IsTableWhole};
 ghost use Rattle.table_compare.specs.Compared.{bits_changed, has_alone, is_alone, IsFirstBelow, SetsAlone};
 ghost use Rattle.table_compare.specs.Counts.{IsCountOf, IsFirstOf};
 
@@ -79,7 +79,7 @@ fn first_bit(one: &[u8], other: &[u8]) -> Option<usize>
 /// The bytes of a table. They are few, since its sectors are.
 fn bytes_of(table: &Table) -> &[u8]
     ensures bytes { result.now ≡ table.now.bytes }
-    ensures whole { IsWhole table.now }
+    ensures whole { IsTableWhole table.now }
     ensures short { length result.now < 2 ^ 32 }
 {
     let _sectors = table.sectors();

@@ -20,7 +20,7 @@ use Rattle.whole_wad.specs.declared.building.Built.{Built}
 use Rattle.whole_wad.specs.Built.{IsBuiltOf}
 use Rattle.whole_wad.specs.Rejects.{table_len}
 use Rattle.table_verdicts.specs.Own.{IsAtFront}
-use Rattle.table_verdicts.specs.Verdict.{IsMissing, IsVerdictOrMemory, IsWrong, Judges}
+use Rattle.table_verdicts.specs.Verdict.{IsBitMissing, IsVerdictOrMemory, IsWrong, JudgesReject}
 
 module _ (m : Map) (reject : List ℕ) (own : TableParts) (built : Built) (front : IsAtFront m.sectors reject own) (is : IsBuiltOf m method.Exact built) where
   pub same : built.table.n ≡ own.n
@@ -46,7 +46,7 @@ module _ (m : Map) (reject : List ℕ) (own : TableParts) (built : Built) (front
     (λ h. (own_bit a b la lb ∙ h.0, λ set. blind a b la lb set h.1)),
   )
 
-  missing_pairs : (a b : ℕ) → a < m.sectors → b < m.sectors → SetsAlone built.table own a b ↔ IsMissing m reject a b
+  missing_pairs : (a b : ℕ) → a < m.sectors → b < m.sectors → SetsAlone built.table own a b ↔ IsBitMissing m reject a b
   missing_pairs a b la lb = (
     (λ h. ((λ set. h.1 (own_bit a b la lb ∙ set)), blind a b la lb h.0)),
     (λ h. (set h.1, λ bit. h.0 (sym (own_bit a b la lb) ∙ bit))),
@@ -63,20 +63,20 @@ module _ (m : Map) (reject : List ℕ) (own : TableParts) (built : Built) (front
   pub wrong_counted : (count : ℕ) → IsCountOf own.n (SetsAlone own built.table) count → IsCountOf m.sectors (IsWrong m reject) count
   wrong_counted count h = count_so m.sectors (SetsAlone own built.table) (IsWrong m reject) wrong_pairs count (subst (λ (n : ℕ). IsCountOf n (SetsAlone own built.table) count) front.sectors h)
 
-  pub missing_counted : (count : ℕ) → IsCountOf own.n (SetsAlone built.table own) count → IsCountOf m.sectors (IsMissing m reject) count
-  missing_counted count h = count_so m.sectors (SetsAlone built.table own) (IsMissing m reject) missing_pairs count (subst (λ (n : ℕ). IsCountOf n (SetsAlone built.table own) count) front.sectors h)
+  pub missing_counted : (count : ℕ) → IsCountOf own.n (SetsAlone built.table own) count → IsCountOf m.sectors (IsBitMissing m reject) count
+  missing_counted count h = count_so m.sectors (SetsAlone built.table own) (IsBitMissing m reject) missing_pairs count (subst (λ (n : ℕ). IsCountOf n (SetsAlone built.table own) count) front.sectors h)
 
   pub first_wrong : (first : Option Pair) → IsFirstOf own.n (SetsAlone own built.table) first → IsFirstOf m.sectors (IsWrong m reject) first
   first_wrong first h = first_so m.sectors (SetsAlone own built.table) (IsWrong m reject) wrong_pairs first (subst (λ (n : ℕ). IsFirstOf n (SetsAlone own built.table) first) front.sectors h)
 
 -- ---- refusals
 
-pub audit_refuses : (m : Map) (reject : List ℕ) (s : Status) → IsAuditRefusal m s → Judges m reject (Err s)
+pub audit_refuses : (m : Map) (reject : List ℕ) (s : Status) → IsAuditRefusal m s → JudgesReject m reject (Err s)
 audit_refuses m reject (status.BadMap (flaw.Line fault)) h = h.is
 audit_refuses m reject (status.BadMap (flaw.Open side)) h = (h.0.meet, h.1)
 audit_refuses m reject (status.Memory _) h = tt
 audit_refuses m reject s h = absurd h
 
-pub refused_says : (m : Map) (reject : List ℕ) (s : Status) → table_len m.sectors ≤ length reject → Judges m reject (Err s) → IsVerdictOrMemory (Ok m) reject (Err s)
+pub refused_says : (m : Map) (reject : List ℕ) (s : Status) → table_len m.sectors ≤ length reject → JudgesReject m reject (Err s) → IsVerdictOrMemory (Ok m) reject (Err s)
 refused_says m reject (status.Memory _) enough h = tt
 refused_says m reject s enough h = record { enough = enough; flaw = h }

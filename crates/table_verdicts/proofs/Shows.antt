@@ -10,8 +10,8 @@ use Rattle.sight_names.specs.Sees.{Sees}
 use Rattle.pair_answer.specs.declared.answer.PairAnswer.{PairAnswer}
 use Rattle.pair_answer.specs.declared.answer.PairAnswer.TheVariants as answer
 use Rattle.pair_answer.specs.Answer.{AnswersPair, IsAnswerFor, IsMissing}
-use Rattle.pair_answer.specs.Laws.{TellsSight}
-use Rattle.table_verdicts.specs.Verdict.{ShowsSight}
+use Rattle.pair_answer.specs.Laws.{AnswerTellsSight}
+use Rattle.table_verdicts.specs.Verdict.{ShowsSightByAnswer}
 
 module _ (m : Map) (pair : Pair) (row : pair.a < m.sectors) (column : pair.b < m.sectors) (sees : Sees m pair.a pair.b) where
   never_listed : AnswersPair m ask.Full pair answer.Listed → ⊥
@@ -23,7 +23,7 @@ module _ (m : Map) (pair : Pair) (row : pair.a < m.sectors) (column : pair.b < m
   never_missing k (inl h) = let le = h.1 in omega arith
   never_missing k (inr h) = let le = h.2 in omega arith
 
-  pub shows : (given : PairAnswer) → IsAnswerFor m ask.Full pair given → TellsSight m pair given → ShowsSight given
+  pub shows : (given : PairAnswer) → IsAnswerFor m ask.Full pair given → AnswerTellsSight m pair given → ShowsSightByAnswer given
   shows (answer.Sight ray) h tells = tt
   shows answer.Blind h tells = absurd (tells sees)
   shows answer.Touch h tells = tt

@@ -4,10 +4,10 @@ use Rattle.std.specs.Fmt.{decimal}
 use Rattle.std.specs.List.{flat_map}
 use Rattle.std.specs.Str.{trim_end}
 use Rattle.sight_names.specs.declared.names.Ray.{Ray}
-use Rattle.wad_dir.specs.AllMaps.Names.{word_of}
+use Rattle.wad_dir.specs.AllMaps.Names.{name_before_nul}
 use Rattle.map_answers.specs.declared.sight_status.status.Status.{Status}
 use Rattle.map_answers.specs.SightStatus.Texts.{reason_words}
-use Rattle.pair_answer.specs.WhyAnswers.Lines.{ray_words}
+use Rattle.pair_answer.specs.WhyAnswers.Lines.{ray_as_words}
 use Rattle.row_spelling.specs.declared.Spelling.{Spelling}
 use Rattle.row_spelling.specs.declared.Spelling.TheVariants as spelling
 use Rattle.row_spelling.specs.Quoted.{quoted}
@@ -19,7 +19,7 @@ use Rattle.table_verdicts.specs.declared.verdict.Verdict.TheVariants as verdict
 use Rattle.table_verdicts.specs.declared.verdict.MapVerdict.{MapVerdict}
 
 abbrev pub shown_words : Shown → List ℕ
-shown_words (shown.Ray ray) = codes " by " ++ ray_words ray
+shown_words (shown.Ray ray) = codes " by " ++ ray_as_words ray
 shown_words shown.Touch = codes " touch"
 
 abbrev pub pair_words : FirstWrong → List ℕ
@@ -42,12 +42,12 @@ said_words (Err refusal) = codes " refused " ++ reason_words refusal
 
 -- one line: the name, and what is said of its REJECT
 abbrev pub verdict_line : MapVerdict → List ℕ
-verdict_line v = word_of v.name ++ said_words v.said
+verdict_line v = name_before_nul v.name ++ said_words v.said
 
 -- ---- the same as a JSON object, whose members are named by the words of the line
 
 abbrev pub ray_json : Ray → List ℕ
-ray_json ray = codes "\"" ++ ray_words ray ++ codes "\""
+ray_json ray = codes "\"" ++ ray_as_words ray ++ codes "\""
 
 abbrev pub shown_json : Shown → List ℕ
 shown_json (shown.Ray ray) = ray_json ray
@@ -76,7 +76,7 @@ said_json (Ok (verdict.Judged findings)) = counts_json findings.wrong findings.m
 said_json (Err refusal) = refused_json refusal
 
 abbrev pub verdict_json : MapVerdict → List ℕ
-verdict_json v = codes "{\"map\":" ++ quoted (word_of v.name) ++ said_json v.said ++ codes "}\n"
+verdict_json v = codes "{\"map\":" ++ quoted (name_before_nul v.name) ++ said_json v.said ++ codes "}\n"
 
 -- ---- the report
 
@@ -86,5 +86,5 @@ verdict_row spelling.Text v = verdict_line v
 verdict_row spelling.Json v = verdict_json v
 
 -- one line a map
-abbrev pub report_of : Spelling → List MapVerdict → List ℕ
-report_of spelled verdicts = flat_map (verdict_row spelled) verdicts
+abbrev pub verdicts_report : Spelling → List MapVerdict → List ℕ
+verdicts_report spelled verdicts = flat_map (verdict_row spelled) verdicts

@@ -1,20 +1,20 @@
 -- What is said of the REJECT of maps of a WAD.
 use Rattle.std.specs.Prelude.{◌≡◌, ℕ, Bool, List, map, string_bytes}
 use Rattle.std.specs.List.{AllByRecursion}
-use Rattle.wad_dir.specs.AllMaps.Names.{word_of}
+use Rattle.wad_dir.specs.AllMaps.Names.{name_before_nul}
 use Rattle.wad_dir.specs.Wad.{WadFile}
 use Rattle.map_answers.specs.Input.{map_named}
 use Rattle.row_spelling.specs.declared.Spelling.{Spelling}
 use Rattle.table_verdicts.specs.declared.verdict.MapVerdict.{MapVerdict}
 use Rattle.table_verdicts.specs.declared.verifying.WadVerdict.{WadVerdict}
 use Rattle.whole_wad.specs.Rejects.{reject_named}
-use Rattle.table_verdicts.specs.Report.{report_of}
+use Rattle.table_verdicts.specs.Report.{verdicts_report}
 use Rattle.table_verdicts.specs.Tallies.{tally_of}
-use Rattle.table_verdicts.specs.Verdict.{IsVerdictOn}
+use Rattle.table_verdicts.specs.Verdict.{IsRejectVerdict}
 
 -- of the map of a name, by the usual limits or the larger ones, and its own REJECT
 abbrev pub SaysOf : WadFile → Bool → MapVerdict → Type 0
-SaysOf w large v = IsVerdictOn (map_named large w (word_of v.name)) (reject_named w (word_of v.name)) v.said
+SaysOf w large v = IsRejectVerdict (map_named large w (name_before_nul v.name)) (reject_named w (name_before_nul v.name)) v.said
 
 -- there is one verdict for each map of these names, in order
 pub record AreVerdicts (w : WadFile) (large : Bool) (names : List (List ℕ)) (verdicts : List MapVerdict) : Type 0 where
@@ -25,5 +25,5 @@ pub record AreVerdicts (w : WadFile) (large : Bool) (names : List (List ℕ)) (v
 pub record ShowsVerdicts (w : WadFile) (large : Bool) (names : List (List ℕ)) (spelled : Spelling) (given : WadVerdict) : Type 0 where
   pub verdicts : List MapVerdict
   pub are : AreVerdicts w large names verdicts
-  pub report : string_bytes given.report ≡ report_of spelled verdicts
+  pub report : string_bytes given.report ≡ verdicts_report spelled verdicts
   pub tally : given.tally ≡ tally_of verdicts

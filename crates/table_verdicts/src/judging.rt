@@ -5,7 +5,7 @@ ghost use Rattle.sight_names.specs.Map.{map_of};
 ghost use Rattle.map_answers.specs.Sound.{IsAuditRefusal};
 ghost use Rattle.table_compare.specs.Counts.{IsFirstOf};
 ghost use Rattle.table_verdicts.specs.Own.{IsAtFront};
-ghost use Rattle.table_verdicts.specs.Verdict.{HasFirstWrong, IsVerdictOrMemory, IsWrong, Judges};
+ghost use Rattle.table_verdicts.specs.Verdict.{HasFirstWrong, IsVerdictOrMemory, IsWrong, JudgesReject};
 
 use crate::own::{OwnTable, own_table};
 use crate::sight_of_pair::sight_of_pair;
@@ -51,7 +51,7 @@ fn judge_table<R: Threads + Sync, G: Gate + Sync>(
 ) -> Result<Findings, Status>
     requires own { IsAtFront plan.now.sectors reject.now own.now }
     requires workers { (1 ≤ workers) × (workers ≤ 64) }
-    ensures { Judges (map_of plan.now) reject.now result }
+    ensures { JudgesReject (map_of plan.now) reject.now result }
 {
     let built = build(rt, alloc, plan, workers, Method::Exact, hooks)?;
     let compared = compare(own, &built.table);

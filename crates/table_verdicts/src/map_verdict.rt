@@ -2,7 +2,7 @@
 
 ghost use Rattle.std.specs.Prelude.{◌≡◌, ◌+◌, ◌≤◌, length, All, IfOk, IsTrue};
 ghost use Rattle.wad_dir.specs.Map.{entry_names};
-ghost use Rattle.wad_dir.specs.Wad.{file_of, names_of};
+ghost use Rattle.wad_dir.specs.Wad.{file_of, names_of_lumps};
 ghost use Rattle.wad_dir.specs.AllMaps.Maps.{is_map_name};
 ghost use Rattle.map_answers.specs.Input.{map_named};
 ghost use Rattle.whole_wad.specs.Rejects.{reject_named};
@@ -33,7 +33,7 @@ fn verdict_named<R: Threads + Sync, G: Gate + Sync>(
     hooks: &Hooks<'_, G>,
 ) -> Result<Verdict, Status>
     requires inside { All (λ entry. entry.at + entry.size ≤ length bytes.now) wad.now.entries }
-    requires names { names_of (file_of bytes.now wad.now) ≡ entry_names wad.now.entries }
+    requires names { names_of_lumps (file_of bytes.now wad.now) ≡ entry_names wad.now.entries }
     requires workers { (1 ≤ workers) × (workers ≤ 64) }
     ensures { IsVerdictOrMemory (map_named large (file_of bytes.now wad.now) name.now) (reject_named (file_of bytes.now wad.now) name.now) result }
 {
@@ -60,7 +60,7 @@ pub fn verdict_on<R: Threads + Sync, G: Gate + Sync>(
     hooks: &Hooks<'_, G>,
 ) -> Result<MapVerdict, Memory>
     requires inside { All (λ entry. entry.at + entry.size ≤ length bytes.now) wad.now.entries }
-    requires names { names_of (file_of bytes.now wad.now) ≡ entry_names wad.now.entries }
+    requires names { names_of_lumps (file_of bytes.now wad.now) ≡ entry_names wad.now.entries }
     requires named { IsTrue (is_map_name name.now) }
     requires workers { (1 ≤ workers) × (workers ≤ 64) }
     ensures name { IfOk result (λ v. v.name ≡ name.now) }

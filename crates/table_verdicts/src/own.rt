@@ -2,7 +2,7 @@
 
 ghost use Rattle.std.specs.Prelude.{◌≡◌, ◌≤◌, IfOk, length};
 ghost use Rattle.whole_wad.specs.Rejects.{table_len};
-ghost use Rattle.table_verdicts.specs.Own.{IsAtFront, IsOwn};
+ghost use Rattle.table_verdicts.specs.Own.{IsAtFront, IsOwnTable};
 
 use reject_bits::Table;
 use sight_names::{Memory, TableFault};
@@ -31,7 +31,7 @@ fn front(alloc: Global, n: u16, reject: &[u8], len: usize) -> Result<Table, Memo
 
 /// The table of so many sectors that a REJECT holds.
 pub fn own_table(alloc: Global, n: u16, reject: &[u8]) -> Result<OwnTable, Memory>
-    ensures { IfOk result (IsOwn n reject.now) }
+    ensures { IfOk result (IsOwnTable n reject.now) }
 {
     match Table::of_bytes(alloc, n, reject) {
         Ok(table) => Ok(OwnTable::Whole(table)),

@@ -5,10 +5,10 @@ ghost use Rattle.sight_names.specs.Groups.{HasClosedFaces};
 ghost use Rattle.sight_names.specs.Map.{map_of};
 ghost use Rattle.sight_names.specs.Sees.{Sees};
 ghost use Rattle.sight_names.specs.declared.names.Ask.TheVariants.{Full};
-ghost use Rattle.map_answers.specs.Groups.{AreGroupsOver};
+ghost use Rattle.map_answers.specs.Groups.{AreGroupsOverPlan};
 ghost use Rattle.map_answers.specs.Sound.{IsAuditRefusal};
 ghost use Rattle.pair_answer.specs.Answer.{IsAnswerFor};
-ghost use Rattle.table_verdicts.specs.Verdict.{ShowsSight, answer_of};
+ghost use Rattle.table_verdicts.specs.Verdict.{ShowsSightByAnswer, answer_of};
 
 use crate::verdict::Shown;
 use map_answers::sight_status::Status;
@@ -19,7 +19,7 @@ use std::alloc::Global;
 
 /// What an answer shows.
 fn shown_by(answer: PairAnswer) -> Shown
-    requires { ShowsSight answer }
+    requires { ShowsSightByAnswer answer }
     ensures { answer_of result ≡ answer }
 {
     match answer {
@@ -38,12 +38,12 @@ fn answer_over(
     groups: &MeshGroups,
     pair: Pair,
 ) -> Result<PairAnswer, Memory>
-    requires groups { AreGroupsOver plan.now groups.now }
+    requires groups { AreGroupsOverPlan plan.now groups.now }
     requires row { pair.a < plan.now.sectors }
     requires column { pair.b < plan.now.sectors }
     requires sees { Sees (map_of plan.now) pair.a pair.b }
     ensures answer { IfOk result (IsAnswerFor (map_of plan.now) Full pair) }
-    ensures shows { IfOk result ShowsSight }
+    ensures shows { IfOk result ShowsSightByAnswer }
 {
     pair_answer(alloc, plan, &groups.mesh, &groups.grouped, Ask::Full, pair)
 }

@@ -3,10 +3,10 @@
 ghost use Rattle.std.specs.Prelude.{◌≡◌, ◌+◌, ◌≤◌, length, map, All, IfOk, IsTrue, string_bytes};
 ghost use Rattle.std.specs.List.{AllByRecursion};
 ghost use Rattle.wad_dir.specs.Map.{entry_names};
-ghost use Rattle.wad_dir.specs.Wad.{file_of, names_of};
+ghost use Rattle.wad_dir.specs.Wad.{file_of, names_of_lumps};
 ghost use Rattle.wad_dir.specs.AllMaps.All.{HasInOrder};
-ghost use Rattle.wad_dir.specs.AllMaps.Maps.{is_map_name, maps_of};
-ghost use Rattle.table_verdicts.specs.Report.{report_of};
+ghost use Rattle.wad_dir.specs.AllMaps.Maps.{is_map_name, maps_in_names};
+ghost use Rattle.table_verdicts.specs.Report.{verdicts_report};
 ghost use Rattle.table_verdicts.specs.Verdicts.{SaysOf, ShowsVerdicts};
 
 use crate::json::row_of;
@@ -58,12 +58,12 @@ fn verify_maps<R: Threads + Sync, G: Gate + Sync, N: Notice>(
     notice: &N,
 ) -> Result<Said, Memory>
     requires inside { All (λ entry. entry.at + entry.size ≤ length bytes.now) wad.now.entries }
-    requires names { names_of (file_of bytes.now wad.now) ≡ entry_names wad.now.entries }
+    requires names { names_of_lumps (file_of bytes.now wad.now) ≡ entry_names wad.now.entries }
     requires named { All (λ name. IsTrue (is_map_name name)) names.now }
     requires workers { (1 ≤ workers) × (workers ≤ 64) }
     ensures each { IfOk result (λ said. map (λ (v : MapVerdict). v.name) said.verdicts.items ≡ names.now) }
     ensures says { IfOk result (λ said. AllByRecursion (SaysOf (file_of bytes.now wad.now) large) said.verdicts.items) }
-    ensures report { IfOk result (λ said. string_bytes said.report ≡ report_of spelling said.verdicts.items) }
+    ensures report { IfOk result (λ said. string_bytes said.report ≡ verdicts_report spelling said.verdicts.items) }
 {
     let mut verdicts = Vec::with_capacity(alloc, names.len())?;
     let mut report = String::new(alloc);
@@ -93,9 +93,9 @@ pub fn verify_wad<R: Threads + Sync, G: Gate + Sync, N: Notice>(
     notice: &N,
 ) -> Result<WadVerdict, Memory>
     requires inside { All (λ entry. entry.at + entry.size ≤ length bytes.now) wad.now.entries }
-    requires names { names_of (file_of bytes.now wad.now) ≡ entry_names wad.now.entries }
+    requires names { names_of_lumps (file_of bytes.now wad.now) ≡ entry_names wad.now.entries }
     // They are some of the WAD's maps, in the order of their entries.
-    requires among { HasInOrder (maps_of (entry_names wad.now.entries)) names.now }
+    requires among { HasInOrder (maps_in_names (entry_names wad.now.entries)) names.now }
     requires workers { (1 ≤ workers) × (workers ≤ 64) }
     ensures { IfOk result (ShowsVerdicts (file_of bytes.now wad.now) large names.now spelling) }
 {

@@ -2,7 +2,7 @@
 use Rattle.std.specs.Prelude.{◌≡◌, ℕ, List, Option, Some, length, slice_get}
 
 -- something that may be made of each of so many tasks, in their order
-pub record AreDone {D : Type 0} (is : ℕ → D → Type 0) (count : ℕ) (made : List D) : Type 0 where
+pub record AreTasksDone {D : Type 0} (is : ℕ → D → Type 0) (count : ℕ) (made : List D) : Type 0 where
   pub len : length made ≡ count
   pub each : (i : ℕ) (d : D) → slice_get made i ≡ Some d → is i d
 

@@ -1,7 +1,7 @@
 //! Who does tasks.
 
 ghost use Rattle.std.specs.Prelude.{ℕ, ◌<◌, All, IfOk, length};
-ghost use Rattle.task_crew.specs.Done.{AreDone, Stand};
+ghost use Rattle.task_crew.specs.Done.{AreTasksDone, Stand};
 
 use crate::hand::{Hand, labour, new_hand};
 use crate::slots::{empty, in_order, put_all};
@@ -15,7 +15,7 @@ use std::thread::Threads;
 /// Does so many tasks one after another.
 pub fn in_turn<T: Tasks>(alloc: Global, tasks: &T, count: usize) -> Result<Vec<T::Done>, Memory>
     requires { (i : ℕ) → i < count → T.can_do tasks.now i }
-    ensures { IfOk result (λ v. AreDone (T.is_done tasks.now) count v.items) }
+    ensures { IfOk result (λ v. AreTasksDone (T.is_done tasks.now) count v.items) }
 {
     let mut tools = tasks.tools(alloc);
     let mut all = Vec::new(alloc);
@@ -97,7 +97,7 @@ pub fn shared<R: Threads + Sync, T: Tasks>(
     workers: usize,
 ) -> Result<Vec<T::Done>, Memory>
     requires { (i : ℕ) → i < count → T.can_do tasks.now i }
-    ensures { IfOk result (λ v. AreDone (T.is_done tasks.now) count v.items) }
+    ensures { IfOk result (λ v. AreTasksDone (T.is_done tasks.now) count v.items) }
 {
     let mut hands = hands_of(alloc, tasks, workers.min(count))?;
     set_to_work(rt, alloc, tasks, count, hands.as_mut_slice());

@@ -1,7 +1,7 @@
 //! Tasks that somebody watches.
 
 ghost use Rattle.std.specs.Prelude.{ℕ, ◌<◌, IfOk};
-ghost use Rattle.task_crew.specs.Done.{AreDone};
+ghost use Rattle.task_crew.specs.Done.{AreTasksDone};
 
 use crate::crew::shared;
 use crate::steps::{Stage, Watcher};
@@ -64,7 +64,7 @@ pub fn shared_told<R: Threads + Sync, T: Tasks>(
     stage: Stage,
 ) -> Result<Vec<T::Done>, Memory>
     requires { (i : ℕ) → i < count → T.can_do tasks.now i }
-    ensures { IfOk result (λ v. AreDone (T.is_done tasks.now) count v.items) }
+    ensures { IfOk result (λ v. AreTasksDone (T.is_done tasks.now) count v.items) }
 {
     let told = Told {
         tasks,

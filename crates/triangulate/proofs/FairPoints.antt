@@ -6,7 +6,7 @@ use Rattle.math_base.proofs.Quoting.{quoting, by_ring}
 use Rattle.math_base.proofs.Signs.{le_or_lt, mul-pos, pos-of-mul, same-of-mul}
 use Rattle.sight_names.specs.declared.names.Pt.{Pt}
 use Rattle.sight_names.specs.Point.{Point, point_of, SamePoint}
-use Rattle.sight_names.specs.Sound.{IsCommon, IsEndOf, MeetAtEnds}
+use Rattle.sight_names.specs.Sound.{IsCommon, IsLineEnd, MeetAtEnds}
 use Rattle.plane_base.proofs.Vec.{V, Lin, at, On, value, det-swap, on_back, on_last}
 use Rattle.plane_base.proofs.Wedge.{Inside}
 use Rattle.plane_base.proofs.Near.{on_first, on_inside, unit, height}
@@ -102,19 +102,19 @@ fair_of p q s t h w f fw o1 o2 =
 abbrev pub SameEnds : Pt → Pt → Pt → Pt → Type 0
 SameEnds p q s t = ((p ≡ s) × (q ≡ t)) ⊎ ((p ≡ t) × (q ≡ s))
 
-ends_of_fair : (p q s t : Pt) → MeetsFairly (at_pt p) (at_pt q) (at_pt s) (at_pt t) → (r : Point) → IsCommon p q s t r → IsEndOf p q r × IsEndOf s t r
+ends_of_fair : (p q s t : Pt) → MeetsFairly (at_pt p) (at_pt q) (at_pt s) (at_pt t) → (r : Point) → IsCommon p q s t r → IsLineEnd p q r × IsLineEnd s t r
 ends_of_fair p q s t h r c =
     let up : pos 0 <ℤ at unit (vec r) = let e = height (vec r) in let z = r.positive in omega (arith, ints) in
     let e = h (vec r) unit up (on_of_segment (point_of p) (point_of q) r c.0) (on_of_segment (point_of s) (point_of t) r c.1) in (
-      elim e.0 as (λ _. IsEndOf p q r) [ inl a ↦ inl (same_of_at p r a) | inr a ↦ inr (same_of_at q r a) ],
-      elim e.1 as (λ _. IsEndOf s t r) [ inl a ↦ inl (same_of_at s r a) | inr a ↦ inr (same_of_at t r a) ],
+      elim e.0 as (λ _. IsLineEnd p q r) [ inl a ↦ inl (same_of_at p r a) | inr a ↦ inr (same_of_at q r a) ],
+      elim e.1 as (λ _. IsLineEnd s t r) [ inl a ↦ inl (same_of_at s r a) | inr a ↦ inr (same_of_at t r a) ],
     )
 
 one_place : (p s : Pt) (r : Point) → SamePoint r (point_of p) → SamePoint r (point_of s) → p ≡ s
 one_place p s r a b = whole_same p s (same_trans (point_of p) r (point_of s) (same_point_sym r (point_of p) a) b)
 
 -- r at p and u at q, both at ends of s t: they are one point, or the segments have the same ends
-two_ends : (p q s t : Pt) → ¬ SameEnds p q s t → (r u : Point) → SamePoint r (point_of p) → SamePoint u (point_of q) → IsEndOf s t r → IsEndOf s t u → SamePoint r u
+two_ends : (p q s t : Pt) → ¬ SameEnds p q s t → (r u : Point) → SamePoint r (point_of p) → SamePoint u (point_of q) → IsLineEnd s t r → IsLineEnd s t u → SamePoint r u
 two_ends p q s t n r u rp uq rs us = elim rs as (λ _. SamePoint r u) [
   | inl a ↦ elim us as (λ _. SamePoint r u) [
     | inl b ↦ same_whole s r u a b

@@ -7,10 +7,10 @@ use Rattle.std.proofs.lemmas.List.Elements.{Contains-append_left, Contains-appen
 use Rattle.sight_names.specs.declared.names.Pt.{Pt}
 use Rattle.sight_names.specs.Point.{point_of}
 use Rattle.sight_names.specs.Map.{Map, MapLine, line_at}
-use Rattle.sight_names.specs.Points.{Edge, points_of, place, number_of, line_edge}
+use Rattle.sight_names.specs.Points.{Edge, points_of, place, point_number, line_edge}
 use Rattle.sight_names.specs.Sound.{MeetAtEnds, LinesMeetAtEnds}
 use Rattle.sight_names.specs.Greedy.{edge_length, ComesBefore, EdgesMeetAtEnds, IsGreedy, line_edges}
-use Rattle.sight_names.specs.Mesh.{IsKept}
+use Rattle.sight_names.specs.Mesh.{IsSegmentKept}
 use Rattle.sight_names.proofs.Lists.{contains_cases, contains_tail}
 use Rattle.sight_names.proofs.Meets.{flip_first, flip_second}
 use Rattle.mesh_base.proofs.SightLaws.Bridge.{vec}
@@ -54,13 +54,13 @@ both (e ∷ es) = pair e.from e.to ∷ pair e.to e.from ∷ both es
 edge_is : (e : Edge) (i j : ℕ) → e.from ≡ i → e.to ≡ j → e ≡ record { from = i; to = j }
 edge_is e i j p q = λ k. record { from = p k; to = q k }
 
-pub kept_of : (es : List Edge) (i j : ℕ) → In (pair i j) (both es) → IsKept es i j
+pub kept_of : (es : List Edge) (i j : ℕ) → In (pair i j) (both es) → IsSegmentKept es i j
 kept_of [] i j h = absurd h
-kept_of (e ∷ es) i j h = elim h as (λ _. IsKept (e ∷ es) i j) [
+kept_of (e ∷ es) i j h = elim h as (λ _. IsSegmentKept (e ∷ es) i j) [
   | inl s ↦ inl (subst (Contains (e ∷ es)) (edge_is e i j (ap (λ (x : Pair). x.from) s) (ap (λ (x : Pair). x.to) s)) (contains_here e es))
-  | inr k ↦ elim k as (λ _. IsKept (e ∷ es) i j) [
+  | inr k ↦ elim k as (λ _. IsSegmentKept (e ∷ es) i j) [
     | inl s ↦ inr (subst (Contains (e ∷ es)) (edge_is e j i (ap (λ (x : Pair). x.to) s) (ap (λ (x : Pair). x.from) s)) (contains_here e es))
-    | inr r ↦ elim (kept_of es i j r) as (λ _. IsKept (e ∷ es) i j) [ inl c ↦ inl (contains_tail e (record { from = i; to = j }) es c) | inr c ↦ inr (contains_tail e (record { from = j; to = i }) es c) ]
+    | inr r ↦ elim (kept_of es i j r) as (λ _. IsSegmentKept (e ∷ es) i j) [ inl c ↦ inl (contains_tail e (record { from = i; to = j }) es c) | inr c ↦ inr (contains_tail e (record { from = j; to = i }) es c) ]
   ]
 ]
 
@@ -78,11 +78,11 @@ in_back (e ∷ es) i j c = elim (contains_cases e (record { from = j; to = i }) 
   | inr t ↦ inr (inr (in_back es i j t))
 ]
 
-pub in_kept : (es : List Edge) (i j : ℕ) → IsKept es i j → In (pair i j) (both es)
+pub in_kept : (es : List Edge) (i j : ℕ) → IsSegmentKept es i j → In (pair i j) (both es)
 in_kept es i j h = elim h as (λ _. In (pair i j) (both es)) [ inl c ↦ in_forward es i j c | inr c ↦ in_back es i j c ]
 
-pub kept_back : (es : List Edge) (i j : ℕ) → IsKept es i j → IsKept es j i
-kept_back es i j h = elim h as (λ _. IsKept es j i) [ inl c ↦ inr c | inr c ↦ inl c ]
+pub kept_back : (es : List Edge) (i j : ℕ) → IsSegmentKept es i j → IsSegmentKept es j i
+kept_back es i j h = elim h as (λ _. IsSegmentKept es j i) [ inl c ↦ inr c | inr c ↦ inl c ]
 
 dec_in : (ps : List Pair) (i j : ℕ) → In (pair i j) ps ⊎ ¬ In (pair i j) ps
 dec_in [] i j = inr (λ h. h)
@@ -171,7 +171,7 @@ module _ (m : Map) (f : PointFacts m) (ends : LinesMeetAtEnds m) (kept : List Ed
       elim (same_or_not r.0 s.0) as (λ _. (e ≡ h) ⊎ EdgesMeetAtEnds m e h) [
         | inl same ↦ inl (sym r.3 ∙ ap (line_edge m) (same_Some r.1 s.1 (sym r.2 ∙ ap (line_at m) same ∙ s.2)) ∙ s.3)
         | inr n ↦ inr (subst (λ (x : Edge). EdgesMeetAtEnds m x h) r.3 (subst (λ (x : Edge). EdgesMeetAtEnds m (line_edge m r.1) x) s.3 (
-            back_moved (place m (number_of m r.1.first)) (place m (number_of m r.1.second)) (place m (number_of m s.1.first)) (place m (number_of m s.1.second)) r.1.first r.1.second s.1.first s.1.second
+            back_moved (place m (point_number m r.1.first)) (place m (point_number m r.1.second)) (place m (point_number m s.1.first)) (place m (point_number m s.1.second)) r.1.first r.1.second s.1.first s.1.second
             (f.first r.0 r.1 r.2).0 (f.second r.0 r.1 r.2).0 (f.first s.0 s.1 s.2).0 (f.second s.0 s.1 s.2).0 (ends r.0 s.0 r.1 s.1 n r.2 s.2))))
       ]
 
@@ -195,7 +195,7 @@ module _ (m : Map) (f : PointFacts m) (ends : LinesMeetAtEnds m) (kept : List Ed
   ]
 
   -- kept segments, each in one direction or the other
-  pub kept_meet : (i j k l : ℕ) → IsKept kept i j → IsKept kept k l → SamePair i j k l ⊎ MeetAtEnds (place m i) (place m j) (place m k) (place m l)
+  pub kept_meet : (i j k l : ℕ) → IsSegmentKept kept i j → IsSegmentKept kept k l → SamePair i j k l ⊎ MeetAtEnds (place m i) (place m j) (place m k) (place m l)
   kept_meet i j k l c d = elim c as (λ _. SamePair i j k l ⊎ MeetAtEnds (place m i) (place m j) (place m k) (place m l)) [
     | inl x ↦ elim d as (λ _. SamePair i j k l ⊎ MeetAtEnds (place m i) (place m j) (place m k) (place m l)) [
       | inl y ↦ elim (edges_meet (record { from = i; to = j }) (record { from = k; to = l }) x y) [
@@ -220,13 +220,13 @@ module _ (m : Map) (f : PointFacts m) (ends : LinesMeetAtEnds m) (kept : List Ed
   ]
 
   places_apart : (i j : ℕ) → i < length (points_of m) → j < length (points_of m) → ¬ (i ≡ j) → place m i ≢ place m j
-  places_apart i j hi hj n e = n (sym (f.number i hi) ∙ ap (number_of m) e ∙ f.number j hj)
+  places_apart i j hi hj n e = n (sym (f.number i hi) ∙ ap (point_number m) e ∙ f.number j hj)
 
   same_numbers : (i j k l : ℕ) → i < length (points_of m) → j < length (points_of m) → k < length (points_of m) → l < length (points_of m) → SameEnds (place m i) (place m j) (place m k) (place m l) → SamePair i j k l
   same_numbers i j k l hi hj hk hl s = elim s as (λ _. SamePair i j k l) [ inl e ↦ inl (back i k hi hk e.0, back j l hj hl e.1) | inr e ↦ inr (back i l hi hl e.0, back j k hj hk e.1) ]
     where
       back : (i k : ℕ) → i < length (points_of m) → k < length (points_of m) → place m i ≡ place m k → i ≡ k
-      back i k hi hk e = sym (f.number i hi) ∙ ap (number_of m) e ∙ f.number k hk
+      back i k hi hk e = sym (f.number i hi) ∙ ap (point_number m) e ∙ f.number k hk
 
   -- a member that is the same segment, or one that the segment meets within; or it meets all at ends alone
   abbrev Hindered : List Edge → ℕ → ℕ → Type 0
@@ -283,11 +283,11 @@ module _ (m : Map) (f : PointFacts m) (ends : LinesMeetAtEnds m) (kept : List Ed
       let e = f.is_end k h in
       let c = each_line_kept e.0 e.1 e.2 in
       elim e.3 as (λ _. (l : ℕ) × In (pair k l) (both kept)) [
-        | inl p ↦ (number_of m e.1.second, subst (λ (x : ℕ). In (pair x (number_of m e.1.second)) (both kept)) (ap (number_of m) (sym p) ∙ f.number k h) (in_forward kept (number_of m e.1.first) (number_of m e.1.second) c))
-        | inr p ↦ (number_of m e.1.first, subst (λ (x : ℕ). In (pair x (number_of m e.1.first)) (both kept)) (ap (number_of m) (sym p) ∙ f.number k h) (in_back kept (number_of m e.1.second) (number_of m e.1.first) c))
+        | inl p ↦ (point_number m e.1.second, subst (λ (x : ℕ). In (pair x (point_number m e.1.second)) (both kept)) (ap (point_number m) (sym p) ∙ f.number k h) (in_forward kept (point_number m e.1.first) (point_number m e.1.second) c))
+        | inr p ↦ (point_number m e.1.first, subst (λ (x : ℕ). In (pair x (point_number m e.1.first)) (both kept)) (ap (point_number m) (sym p) ∙ f.number k h) (in_back kept (point_number m e.1.second) (point_number m e.1.first) c))
       ]
 
-  pub kept_ends : (i j : ℕ) → IsKept kept i j → (i < length (points_of m)) × (j < length (points_of m)) × ¬ (i ≡ j)
+  pub kept_ends : (i j : ℕ) → IsSegmentKept kept i j → (i < length (points_of m)) × (j < length (points_of m)) × ¬ (i ≡ j)
   kept_ends i j h = elim h as (λ _. (i < length (points_of m)) × (j < length (points_of m)) × ¬ (i ≡ j)) [
     | inl c ↦ let b = kept_between (record { from = i; to = j }) c in (b.from, b.to, b.differ)
     | inr c ↦ let b = kept_between (record { from = j; to = i }) c in (b.to, b.from, λ e. b.differ (sym e))

@@ -4,10 +4,10 @@ use borrow.Author.Differences.{ints}
 use Rattle.sight_names.specs.declared.names.Triangle.{Triangle}
 use Rattle.sight_names.specs.Point.{point_of, turn_at}
 use Rattle.sight_names.specs.Map.{Map, MapLine, line_at}
-use Rattle.sight_names.specs.Points.{Edge, points_of, place, number_of, reverse_of}
+use Rattle.sight_names.specs.Points.{Edge, points_of, place, point_number, reverse_of}
 use Rattle.sight_names.specs.Sound.{LinesMeetAtEnds}
 use Rattle.sight_names.specs.Greedy.{IsGreedy}
-use Rattle.sight_names.specs.Mesh.{IsTriangle, AreTriangles, HasEdge, IsKept, IsMeshTriangle, IsMeshOf, IsPlainMesh, MeetsFairly, IsLineEdge, side_edge}
+use Rattle.sight_names.specs.Mesh.{IsTriangle, AreTriangles, HasEdge, IsSegmentKept, IsMeshTriangle, IsMeshOf, IsPlainMesh, MeetsFairly, IsLineEdge, side_edge}
 use Rattle.sight_names.proofs.Lists.{get_of_contains, contains_of_get}
 use Rattle.plane_base.proofs.Vec.{V, det, det-cycle}
 use Rattle.mesh_base.proofs.SightLaws.Bridge.{turn_at_is}
@@ -118,13 +118,13 @@ module _ (m : Map) (f : PointFacts m) (ends : LinesMeetAtEnds m) (kept : List Ed
       same_turned (length (points_of m)) t u e.from e.to y.0 ht.numbers hu.numbers (subst (λ (c : ℕ). Turned t e.from e.to c) same x.2) y.2
 
   -- an edge of a triangle meets a line at ends alone, or is the same segment
-  edge_fair : (u v i : ℕ) (l : MapLine) → IsKept kept u v → line_at m i ≡ Some l → MeetsFairly m (record { from = u; to = v }) l
-  edge_fair u v i l k is = elim (kept_meet m f ends kept g u v (number_of m l.first) (number_of m l.second) k (inl (each_line_kept m f ends kept g i l is))) as (λ _. MeetsFairly m (record { from = u; to = v }) l) [
+  edge_fair : (u v i : ℕ) (l : MapLine) → IsSegmentKept kept u v → line_at m i ≡ Some l → MeetsFairly m (record { from = u; to = v }) l
+  edge_fair u v i l k is = elim (kept_meet m f ends kept g u v (point_number m l.first) (point_number m l.second) k (inl (each_line_kept m f ends kept g i l is))) as (λ _. MeetsFairly m (record { from = u; to = v }) l) [
     | inl s ↦ inr (elim s as (λ _. (left : Bool) × (◌≡◌ {A = Edge} (record { from = u; to = v }) (side_edge m l left))) [
       | inl e ↦ (true, λ j. record { from = e.0 j; to = e.1 j })
       | inr e ↦ (false, λ j. record { from = e.0 j; to = e.1 j })
     ])
-    | inr h ↦ inl (moved_ends (place m u) (place m v) (place m (number_of m l.first)) (place m (number_of m l.second)) (place m u) (place m v) l.first l.second refl refl (f.first i l is).0 (f.second i l is).0 h)
+    | inr h ↦ inl (moved_ends (place m u) (place m v) (place m (point_number m l.first)) (place m (point_number m l.second)) (place m u) (place m v) l.first l.second refl refl (f.first i l is).0 (f.second i l is).0 h)
   ]
 
   corner_tri : (a b c : ℕ) → NetTri a b c → (t : Triangle) × IsMeshTriangle m kept t × HasEdge t (record { from = a; to = b })
@@ -144,7 +144,7 @@ module _ (m : Map) (f : PointFacts m) (ends : LinesMeetAtEnds m) (kept : List Ed
       least : (a b c : ℕ) → ¬ (a ≡ b) → ¬ (b ≡ c) → ¬ (a ≡ c) → ((a < b) × (a < c)) ⊎ (((b < c) × (b < a)) ⊎ ((c < a) × (c < b)))
       least a b c h k l = grind arith
 
-  pub filled : (a b k : ℕ) → IsKept kept a b → k < length (points_of m) → pos 0 <ℤ turn_at (place m a) (place m b) (point_of (place m k)) → (t : Triangle) × IsMeshTriangle m kept t × HasEdge t (record { from = a; to = b })
+  pub filled : (a b k : ℕ) → IsSegmentKept kept a b → k < length (points_of m) → pos 0 <ℤ turn_at (place m a) (place m b) (point_of (place m k)) → (t : Triangle) × IsMeshTriangle m kept t × HasEdge t (record { from = a; to = b })
   filled a b k h lt left =
       let w = fills (pv m) (numbers (length (points_of m))) (both kept) net a b k (in_kept kept a b h) (in_numbers (length (points_of m)) k lt) (left_of a b k left) in
       let nb = w.neighbours in
@@ -168,12 +168,12 @@ module _ (m : Map) (f : PointFacts m) (ends : LinesMeetAtEnds m) (ts : List Tria
       let c = (h.exactly w.0).1 w.1 in
       (c.0, w.0, get_of_contains ts w.0 c.0 c.1 c.2, w.2)
 
-  edge_kept : (k : ℕ) (t : Triangle) (e : Edge) → slice_get ts k ≡ Some t → HasEdge t e → IsKept h.kept e.from e.to
+  edge_kept : (k : ℕ) (t : Triangle) (e : Edge) → slice_get ts k ≡ Some t → HasEdge t e → IsSegmentKept h.kept e.from e.to
   edge_kept k t e at he =
       let w = from_edge m f ends h.kept h.greedy t e (at_mesh k t at) he in
       kept_of h.kept e.from e.to w.1.ab
 
-  line_kept : (e : Edge) → IsLineEdge m e → IsKept h.kept e.from e.to
+  line_kept : (e : Edge) → IsLineEdge m e → IsSegmentKept h.kept e.from e.to
   line_kept e (i, l, true, is, same) = inl (subst (Contains h.kept) (sym same) (each_line_kept m f ends h.kept h.greedy i l is))
   line_kept e (i, l, false, is, same) = inr (subst (Contains h.kept) (λ j. reverse_of (sym same j)) (each_line_kept m f ends h.kept h.greedy i l is))
 

@@ -9,7 +9,7 @@ use Rattle.sight_names.specs.Map.{Map}
 use Rattle.sight_names.specs.Points.{Edge, points_of, place}
 use Rattle.sight_names.specs.Sound.{LinesMeetAtEnds}
 use Rattle.sight_names.specs.Greedy.{IsGreedy}
-use Rattle.sight_names.specs.Mesh.{IsKept, IsMeshTriangle}
+use Rattle.sight_names.specs.Mesh.{IsSegmentKept, IsMeshTriangle}
 use Rattle.sight_names.proofs.Lists.{contains_cases, contains_tail, contains_of_get}
 use Rattle.plane_base.proofs.Vec.{det, edge, det-cycle, det-first}
 use Rattle.plane_base.proofs.Near.{det-flip}
@@ -37,12 +37,12 @@ contains_edge [] k s e = absurd (contains_none s (contains_of_get [] s k e))
 contains_edge (x ∷ segs) zero s e = subst (λ (y : Segment). Contains (map edge_of (x ∷ segs)) (edge_of y)) (same_Some x s e) (contains_here (edge_of x) (map edge_of segs))
 contains_edge (x ∷ segs) (suc k) s e = contains_tail (edge_of x) (edge_of s) (map edge_of segs) (contains_edge segs k s e)
 
-pub neighbour_kept : (segs : List Segment) (u v : ℕ) → ((k : ℕ) (s : Segment) → slice_get segs k ≡ Some s → s.from ≢ s.to) → IsNeighbour segs u v → IsKept (map edge_of segs) u v
+pub neighbour_kept : (segs : List Segment) (u v : ℕ) → ((k : ℕ) (s : Segment) → slice_get segs k ≡ Some s → s.from ≢ s.to) → IsNeighbour segs u v → IsSegmentKept (map edge_of segs) u v
 neighbour_kept segs u v differ (k, lt, end, other) =
     let s = get_or segs k any_segment in
     let at = slice_get-get_or segs k any_segment lt in
     let c = contains_edge segs k s at in
-    elim (end_cases u s (end any_segment)) as (λ _. IsKept (map edge_of segs) u v) [
+    elim (end_cases u s (end any_segment)) as (λ _. IsSegmentKept (map edge_of segs) u v) [
       | inl e ↦ inl (subst (Contains (map edge_of segs)) (λ i. record { from = e i; to = sym (other any_segment ∙ other_from u s e) i }) c)
       | inr e ↦ inr (subst (Contains (map edge_of segs)) (λ i. record { from = sym (other any_segment ∙ other_to u s (differ k s at) e) i; to = e i }) c)
     ]
@@ -55,13 +55,13 @@ edge_there (x ∷ segs) e c = elim (contains_cases (edge_of x) e (map edge_of se
 ]
 
 -- a kept segment, as a segment of the list, from one end or the other
-pub kept_segment : (segs : List Segment) (u v : ℕ) → IsKept (map edge_of segs) u v → (k : ℕ) × (s : Segment) × (slice_get segs k ≡ Some s) × (((s.from ≡ u) × (s.to ≡ v)) ⊎ ((s.to ≡ u) × (s.from ≡ v)))
+pub kept_segment : (segs : List Segment) (u v : ℕ) → IsSegmentKept (map edge_of segs) u v → (k : ℕ) × (s : Segment) × (slice_get segs k ≡ Some s) × (((s.from ≡ u) × (s.to ≡ v)) ⊎ ((s.to ≡ u) × (s.from ≡ v)))
 kept_segment segs u v h = elim h as (λ _. (k : ℕ) × (s : Segment) × (slice_get segs k ≡ Some s) × (((s.from ≡ u) × (s.to ≡ v)) ⊎ ((s.to ≡ u) × (s.from ≡ v)))) [
   | inl c ↦ let r = edge_there segs (record { from = u; to = v }) c in (r.0, r.1, r.2, inl (ap (λ (x : Edge). x.from) r.3, ap (λ (x : Edge). x.to) r.3))
   | inr c ↦ let r = edge_there segs (record { from = v; to = u }) c in (r.0, r.1, r.2, inr (ap (λ (x : Edge). x.to) r.3, ap (λ (x : Edge). x.from) r.3))
 ]
 
-pub kept_neighbour : (segs : List Segment) (u v : ℕ) → ((k : ℕ) (s : Segment) → slice_get segs k ≡ Some s → s.from ≢ s.to) → IsKept (map edge_of segs) u v → IsNeighbour segs u v
+pub kept_neighbour : (segs : List Segment) (u v : ℕ) → ((k : ℕ) (s : Segment) → slice_get segs k ≡ Some s → s.from ≢ s.to) → IsSegmentKept (map edge_of segs) u v → IsNeighbour segs u v
 kept_neighbour segs u v differ h =
     let r = kept_segment segs u v h in
     elim r.3 as (λ _. IsNeighbour segs u v) [

@@ -12,7 +12,7 @@ use Rattle.sight_names.proofs.PlanNumbers.{count_of_plan}
 use Rattle.mesh_base.proofs.PlanFacts.{plan_facts}
 use Rattle.triangulate.specs.declared.incident_segments.segments.Segment.{Segment}
 use Rattle.triangulate.specs.IncidentSegments.Kept.{edge_of, IsEdgeBetween, AreEdges}
-use Rattle.triangulate.specs.Left.{AreLeftTriangles, IsInOrder}
+use Rattle.triangulate.specs.Left.{AreLeftTriangles, AreTrianglesSorted}
 use Rattle.mesh_shape.specs.Fills.{FillsHull, FillsSides}
 use Rattle.triangulate.proofs.GreedyNet.{kept_between}
 use Rattle.triangulate.proofs.MeshLaws.{mesh_plain, mesh_fills, mesh_fills_sides}
@@ -27,7 +27,7 @@ greedy_edges p count is same ends kept g = λ k e at.
     let c = count_of_plan p is in
     subst (λ (n : ℕ). IsEdgeBetween n e) (let x : length (points_of (map_of p)) ≡ count = omega (arith, c, same) in x) b
 
-module _ (p : PlanParts) (is : IsPlan p) (ends : LinesMeetAtEnds (map_of p)) (segs : List Segment) (kept : List Edge) (same : map edge_of segs ≡ kept) (g : IsGreedy (map_of p) kept) (found left : List Triangle) (are : AreLeftTriangles (map_of p) segs found) (order : IsInOrder found left) where
+module _ (p : PlanParts) (is : IsPlan p) (ends : LinesMeetAtEnds (map_of p)) (segs : List Segment) (kept : List Edge) (same : map edge_of segs ≡ kept) (g : IsGreedy (map_of p) kept) (found left : List Triangle) (are : AreLeftTriangles (map_of p) segs found) (order : AreTrianglesSorted found left) where
   greedy_here : IsGreedy (map_of p) (map edge_of segs)
   greedy_here = subst (IsGreedy (map_of p)) (sym same) g
 

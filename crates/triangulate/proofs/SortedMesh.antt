@@ -13,7 +13,7 @@ use Rattle.std.proofs.lemmas.List.Sorted.{Contains-permutation, IsPermutation-sy
 use Rattle.sight_names.specs.declared.names.Triangle.{Triangle}
 use Rattle.sight_names.specs.Mesh.{AreTriangles, IsTriangle, IsAbove}
 use Rattle.sight_names.proofs.Lists.{contains_cases, contains_of_get}
-use Rattle.triangulate.specs.Left.{IsInOrder}
+use Rattle.triangulate.specs.Left.{AreTrianglesSorted}
 use Rattle.math_base.proofs.Lists.{contains_none}
 
 -- by the first number, then the second, then the third
@@ -69,10 +69,10 @@ above_later (x ∷ xs) h zero (suc j) t u lt p q =
 above_later (x ∷ xs) h (suc i) zero t u lt p q = absurd (omega arith)
 above_later (x ∷ xs) h (suc i) (suc j) t u lt p q = above_later xs h.1 i j t u (omega arith) p q
 
-pub in_order_of : (found sorted left : List Triangle) → IsPermutation found sorted → IsSorted tri_cmp sorted → IsFiltered (DiffersFromLast tri_eq) [] sorted left → IsInOrder found left
+pub in_order_of : (found sorted left : List Triangle) → IsPermutation found sorted → IsSorted tri_cmp sorted → IsFiltered (DiffersFromLast tri_eq) [] sorted left → AreTrianglesSorted found left
 in_order_of found sorted left moved up kept =
     let is : left ≡ dedup tri_eq sorted = dedup_is tri_eq sorted left kept in
-    subst (IsInOrder found) (sym is) (record {
+    subst (AreTrianglesSorted found) (sym is) (record {
       ascend = above_later (dedup tri_eq sorted) (IsStrictlySortedBy-dedup tri_cmp_total (λ t u. ties_lex t.p u.p t.q u.q t.r u.r) sorted up);
       from_found = λ t c. Contains-permutation sorted found t (IsPermutation-sym found sorted moved) (Contains-from_dedup tri_eq sorted t c);
       has_found = λ t c. Contains-dedup tri_eq_equiv same_tri sorted t (Contains-permutation found sorted t moved c);
@@ -81,5 +81,5 @@ in_order_of found sorted left moved up kept =
     tri_eq_equiv : IsEquivalence tri_eq
     tri_eq_equiv = and_equiv (on_equiv (λ (t : Triangle). t.p) nat_eq_equiv) (and_equiv (on_equiv (λ (t : Triangle). t.q) nat_eq_equiv) (on_equiv (λ (t : Triangle). t.r) nat_eq_equiv))
 
-pub triangles_in_order : (n : ℕ) (found left : List Triangle) → IsInOrder found left → ((t : Triangle) → Contains found t → IsTriangle n t) → AreTriangles n left
+pub triangles_in_order : (n : ℕ) (found left : List Triangle) → AreTrianglesSorted found left → ((t : Triangle) → Contains found t → IsTriangle n t) → AreTriangles n left
 triangles_in_order n found left h each = record { each = λ k t e. each t (h.from_found t (contains_of_get left t k e)); ascend = h.ascend }

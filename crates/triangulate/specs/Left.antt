@@ -36,7 +36,7 @@ pub record AreLeftTriangles (m : Map) (segs : List Segment) (ts : List Triangle)
   pub all : (k : ℕ) (s : Segment) → slice_get segs k ≡ Some s → HasBothSides m segs ts s
 
 -- the same triangles, each once, in ascending order
-pub record IsInOrder (found left : List Triangle) : Type 0 where
+pub record AreTrianglesSorted (found left : List Triangle) : Type 0 where
   pub ascend : (i j : ℕ) (t u : Triangle) → i < j → slice_get left i ≡ Some t → slice_get left j ≡ Some u → IsAbove t u
   pub from_found : (t : Triangle) → Contains left t → Contains found t
   pub has_found : (t : Triangle) → Contains found t → Contains left t

@@ -7,7 +7,7 @@ ghost use Rattle.sight_names.specs.Sound.{LinesMeetAtEnds};
 ghost use Rattle.sight_names.specs.Greedy.{IsGreedy};
 ghost use Rattle.sight_names.specs.Mesh.{IsMeshOf, IsPlainMesh, IsTriangle};
 ghost use Rattle.triangulate.specs.IncidentSegments.Kept.{AreEdges, edge_of};
-ghost use Rattle.triangulate.specs.Left.{AreLeftTriangles, IsInOrder, IsLeftAdded};
+ghost use Rattle.triangulate.specs.Left.{AreLeftTriangles, AreTrianglesSorted, IsLeftAdded};
 ghost use Rattle.mesh_shape.specs.Fills.{FillsHull, FillsSides};
 
 use crate::greedy_segments::{Alone, SegmentWorkers, greedy_by};
@@ -66,7 +66,7 @@ pub fn greedy_mesh_by<W: SegmentWorkers>(
 
 /// The triangles in ascending order, each once.
 fn in_order(found: Vec<Triangle>) -> Vec<Triangle>
-    ensures { IsInOrder found.items result.items }
+    ensures { AreTrianglesSorted found.items result.items }
 {
     let mut triangles = found;
     triangles.sort_unstable();

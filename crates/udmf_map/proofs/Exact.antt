@@ -5,8 +5,8 @@ use Rattle.std.proofs.Math.Nat.{pow-succ', div-add-mod}
 use Rattle.sight_names.specs.declared.limits.TheConstants.{FARTHEST}
 use Rattle.udmf_map.specs.declared.values.Coordinate.{Coordinate}
 use Rattle.udmf_map.specs.declared.values.Coordinate.TheVariants.{OffGrid, At}
-use Rattle.udmf_map.specs.Values.{signed, lowered, scaled}
-use Rattle.udmf_map.specs.Exact.{IsExact, CoordinatesAreExact}
+use Rattle.udmf_map.specs.Values.{signed, lowered, scaled_coordinate}
+use Rattle.udmf_map.specs.Exact.{IsValueExact, CoordinatesAreExact}
 
 abs_side : (negative : Bool) (n : ℕ) → nat_abs (cond negative (neg_ℤ (pos n)) (pos n)) ≡ n
 abs_side true zero = refl
@@ -61,7 +61,7 @@ lowered_is negative m (suc k) units places e = by_last (eqb (m % 10) 0) (λ less
         let s = signed_is negative m (suc k) units places e in
         record { value = λ i. s.abs i * 10 ^ sym s.same i; side = s.side; last = inr (λ none. eqb-false (m % 10) 0 z (ap (λ n. n % 10) (sym s.abs) ∙ none)) }
 
-scaled_is : (negative : Bool) (m : ℕ) (scale units : ℤ) (places : ℕ) → scaled negative m scale ≡ At units places → IsExact negative m scale units places
+scaled_is : (negative : Bool) (m : ℕ) (scale units : ℤ) (places : ℕ) → scaled_coordinate negative m scale ≡ At units places → IsValueExact negative m scale units places
 scaled_is negative m (pos k) units places e =
     let s = signed_is negative (m * 10 ^ k) 0 units places e in
     let one : nat_abs units * 1 ≡ nat_abs units = grind arith in

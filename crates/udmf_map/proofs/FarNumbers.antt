@@ -4,7 +4,7 @@ use Rattle.std.proofs.Math.Nat.{one-le-pow, pow-le-pow_right, mul-le-mul_left, m
 use Rattle.std.proofs.lemmas.Int.{ints}
 use Rattle.sight_names.specs.declared.limits.TheConstants.{FARTHEST}
 use Rattle.udmf_map.specs.declared.values.Coordinate.TheVariants.{OffGrid, At}
-use Rattle.udmf_map.specs.Values.{signed, lowered, scaled}
+use Rattle.udmf_map.specs.Values.{signed, lowered, scaled_coordinate}
 
 pub too_far : (negative : Bool) (n places : ℕ) → FARTHEST < n → signed negative n places ≡ OffGrid
 too_far negative n places far = grind (arith, far)
@@ -42,19 +42,19 @@ none_signed : (negative : Bool) → signed negative 0 0 ≡ At (pos 0) 0
 none_signed true = refl
 none_signed false = refl
 
-pub zero_scaled : (negative : Bool) (m : ℕ) (scale : ℤ) → m ≡ 0 → At (pos 0) 0 ≡ scaled negative m scale
-zero_scaled negative m scale e = sym (ap (λ n. scaled negative n scale) e ∙ by_scale scale)
+pub zero_scaled : (negative : Bool) (m : ℕ) (scale : ℤ) → m ≡ 0 → At (pos 0) 0 ≡ scaled_coordinate negative m scale
+zero_scaled negative m scale e = sym (ap (λ n. scaled_coordinate negative n scale) e ∙ by_scale scale)
   where
-    by_scale : (z : ℤ) → scaled negative 0 z ≡ At (pos 0) 0
+    by_scale : (z : ℤ) → scaled_coordinate negative 0 z ≡ At (pos 0) 0
     by_scale (pos k) =
         let none : 0 * 10 ^ k ≡ 0 = omega arith in
         ap (λ n. signed negative n 0) none ∙ none_signed negative
     by_scale (negsuc k) = none_lowered negative (suc k)
 
-pub lowered_scaled : (negative : Bool) (m : ℕ) (scale : ℤ) → scale <ℤ pos 0 → lowered negative m (nat_abs scale) ≡ scaled negative m scale
+pub lowered_scaled : (negative : Bool) (m : ℕ) (scale : ℤ) → scale <ℤ pos 0 → lowered negative m (nat_abs scale) ≡ scaled_coordinate negative m scale
 lowered_scaled negative m (pos k) below = absurd (omega (arith, ints, below))
 lowered_scaled negative m (negsuc k) below = refl
 
-pub raised_scaled : (negative : Bool) (m : ℕ) (scale : ℤ) → pos 0 ≤ℤ scale → signed negative (m * 10 ^ nat_abs scale) 0 ≡ scaled negative m scale
+pub raised_scaled : (negative : Bool) (m : ℕ) (scale : ℤ) → pos 0 ≤ℤ scale → signed negative (m * 10 ^ nat_abs scale) 0 ≡ scaled_coordinate negative m scale
 raised_scaled negative m (pos k) above = refl
 raised_scaled negative m (negsuc k) above = absurd (omega (arith, ints, above))

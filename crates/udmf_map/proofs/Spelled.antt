@@ -4,8 +4,8 @@ use Rattle.std.specs.List.{flat_map}
 use Rattle.std.specs.Prelude.{codes}
 use Rattle.std.proofs.lemmas.List.{append_assoc, append-nil}
 use Rattle.udmf_text.specs.Parts.{GivenBytes, Opens, Closes}
-use Rattle.udmf_text.specs.Told.{PlacedPart, told_of}
-use Rattle.udmf_text.specs.Grammar.{Assignment, Block as TextBlock, TextItem, Assigned, Blocked, at_token, gives, named, item_parts, IsText, IsTold}
+use Rattle.udmf_text.specs.Told.{PlacedPart, told_of_text}
+use Rattle.udmf_text.specs.Grammar.{Assignment, Block as TextBlock, TextItem, Assigned, Blocked, at_token, gives, item_named, item_parts, IsText, IsTextTold}
 use Rattle.udmf_text.proofs.Grammar.Reads.{tells_items}
 use Rattle.udmf_map.specs.declared.blocks.Block.{Block}
 use Rattle.udmf_map.specs.declared.blocks.Block.TheVariants as blocks
@@ -184,8 +184,8 @@ block_go total r last b ps fault e =
     let opens = at_token total b.open_brace (Opens b.name.token.bytes) in
     let closes = at_token total b.close_brace Closes in
     let tail : List PlacedPart = (map (gives total) b.pairs ++ closes ∷ []) ++ ps in
-    let n = goes total r last (named total b.name) (opens ∷ tail) fault e in
-    let s = name_read r n.more (named total b.name).at b.name.token.bytes n.read in
+    let n = goes total r last (item_named total b.name) (opens ∷ tail) fault e in
+    let s = name_read r n.more (item_named total b.name).at b.name.token.bytes n.read in
     let o = goes total n.more last opens tail fault n.left in
     let t = brace_read n.more o.more opens.at b.name.token.bytes o.read in
     let cut = append_assoc (map (gives total) b.pairs) (closes ∷ []) ps in
@@ -198,8 +198,8 @@ block_go total r last b ps fault e =
 
 assigned_go : (total : ℕ) (r last : Read) (a : Assignment) (ps : List PlacedPart) (fault : Option ℕ) → r.block ≡ None → parts_read total r (item_parts total (Assigned a) ++ ps) fault ≡ Ok last → ItemGo total r (Assigned a) ps fault last
 assigned_go total r last a ps fault h e =
-    let n = goes total r last (named total a.name) (gives total a ∷ ps) fault e in
-    let s = name_read r n.more (named total a.name).at a.name.token.bytes n.read in
+    let n = goes total r last (item_named total a.name) (gives total a ∷ ps) fault e in
+    let s = name_read r n.more (item_named total a.name).at a.name.token.bytes n.read in
     let v = goes total n.more last (gives total a) ps fault n.left in
     let t = value_read n.more v.more (gives total a).at (given_of a) (sym (gives_out n.more (gives total a).at (given_of a) (s.block ∙ h)) ∙ v.read) in
     let u = then_same r n.more v.more r.block n.more.block s t in
@@ -241,12 +241,12 @@ all_go total (item ∷ items) r last h e =
     }
 
 pub reads_blocks : ReadsBlocks
-reads_blocks text r e = by_fault (told_of text).fault refl (tells_items text)
+reads_blocks text r e = by_fault (told_of_text text).fault refl (tells_items text)
   where
-    by_fault : (fault : Option ℕ) → (told_of text).fault ≡ fault → IsTold text (told_of text).parts (told_of text).fault → (t : IsText text (told_of text).parts) × AreRecords t.items r
-    by_fault (Some at) h told = absurd (no_fault (length text) nothing_read r (told_of text).parts at (ap (λ f. parts_read (length text) nothing_read (told_of text).parts f) (sym h) ∙ e))
+    by_fault : (fault : Option ℕ) → (told_of_text text).fault ≡ fault → IsTextTold text (told_of_text text).parts (told_of_text text).fault → (t : IsText text (told_of_text text).parts) × AreRecords t.items r
+    by_fault (Some at) h told = absurd (no_fault (length text) nothing_read r (told_of_text text).parts at (ap (λ f. parts_read (length text) nothing_read (told_of_text text).parts f) (sym h) ∙ e))
     by_fault None h told =
-        let t : IsText text (told_of text).parts = subst (IsTold text (told_of text).parts) h told in
-        let read : parts_read (length text) nothing_read (flat_map (item_parts (length text)) t.items) None ≡ Ok r = sym (ap (λ ps. parts_read (length text) nothing_read ps None) t.made) ∙ (ap (λ f. parts_read (length text) nothing_read (told_of text).parts f) (sym h) ∙ e) in
+        let t : IsText text (told_of_text text).parts = subst (IsTextTold text (told_of_text text).parts) h told in
+        let read : parts_read (length text) nothing_read (flat_map (item_parts (length text)) t.items) None ≡ Ok r = sym (ap (λ ps. parts_read (length text) nothing_read ps None) t.made) ∙ (ap (λ f. parts_read (length text) nothing_read (told_of_text text).parts f) (sym h) ∙ e) in
         let a = all_go (length text) t.items nothing_read r refl read in
         (t, record { vertices = a.vertices; lines = a.lines; sides = a.sides; sectors = a.sectors })

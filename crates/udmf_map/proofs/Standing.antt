@@ -15,9 +15,9 @@ use Rattle.udmf_map.specs.declared.values.Coordinate.TheVariants.{Missing, OffGr
 use Rattle.udmf_map.specs.declared.blocks.Vertex.{Vertex}
 use Rattle.udmf_map.specs.declared.blocks.Linedef.{Linedef}
 use Rattle.udmf_map.specs.Reading.{Read}
-use Rattle.udmf_map.specs.Grid.{places_of, on_grid}
-use Rattle.udmf_map.specs.Lumps.{u16, number, side_number, flags, linedef_bytes, sidedef_bytes, i32, placed, vertex_bytes, lumps_of}
-use Rattle.udmf_map.specs.Standing.{HasLine, HasVertex, RecordsStand}
+use Rattle.udmf_map.specs.Grid.{places_of_lines, on_grid}
+use Rattle.udmf_map.specs.Lumps.{u16, number, side_number_in_lump, flags, linedef_bytes, sidedef_bytes, i32, placed, vertex_bytes, lumps_of}
+use Rattle.udmf_map.specs.Standing.{HasLineNumbers, HasVertex, RecordsStand}
 
 -- ---- records of one length, one behind the other
 
@@ -67,7 +67,7 @@ number_small : (z : ℤ) → number z < 2 ^ 16
 number_small (pos n) = if_small (leb n 65534) n 65535 (λ e. let l = leb-true n 65534 e in omega (arith, l)) (omega arith)
 number_small (negsuc n) = omega arith
 
-side_small : (z : ℤ) → side_number z < 2 ^ 16
+side_small : (z : ℤ) → side_number_in_lump z < 2 ^ 16
 side_small (pos n) = if_small (leb n 65533) n 65534 (λ e. let l = leb-true n 65533 e in omega (arith, l)) (omega arith)
 side_small (negsuc n) = if_small (eqb n 0) 65535 65534 (λ e. omega arith) (omega arith)
 
@@ -86,7 +86,7 @@ linedef_wide l = refl
 sidedef_wide : (s : ℤ) → length (sidedef_bytes s) ≡ 30
 sidedef_wide s = refl
 
-has_line : (r : Read) (k : ℕ) (l : Linedef) → slice_get r.lines k ≡ Some l → HasLine (lumps_of r) k l
+has_line : (r : Read) (k : ℕ) (l : Linedef) → slice_get r.lines k ≡ Some l → HasLineNumbers (lumps_of r) k l
 unfolding linedef_bytes
 has_line r k l e =
     let s = stands linedef_bytes 14 linedef_wide r.lines k l e in
@@ -96,8 +96,8 @@ has_line r k l e =
       first = first_at xs ys (14 * k) (number l.first) s.is refl (number_small l.first);
       second = number_at xs ys (14 * k) 2 (number l.second) s.is refl (number_small l.second);
       flags = number_at xs ys (14 * k) 4 (flags l) s.is refl (flags_small l.two_sided l.blocks_sound);
-      front = number_at xs ys (14 * k) 10 (side_number l.front) s.is refl (side_small l.front);
-      back = number_at xs ys (14 * k) 12 (side_number l.back) s.is refl (side_small l.back);
+      front = number_at xs ys (14 * k) 10 (side_number_in_lump l.front) s.is refl (side_small l.front);
+      back = number_at xs ys (14 * k) 12 (side_number_in_lump l.back) s.is refl (side_small l.back);
     }
 
 has_side : (r : Read) (k : ℕ) (sector : ℤ) → slice_get r.sides k ≡ Some sector → u16_at (flat_map sidedef_bytes r.sides) (30 * k + 28) ≡ number sector
@@ -138,9 +138,9 @@ coordinate_at xs ys a b z e four near = ap (λ (n : List ℕ). cast_signed w32 (
 vertex_wide : (places : ℕ) (v : Vertex) → length (vertex_bytes places v) ≡ 8
 vertex_wide places v = refl
 
-has_vertex : (r : Read) (k : ℕ) (v : Vertex) → slice_get r.vertices k ≡ Some v → HasVertex (lumps_of r) (places_of r.vertices r.lines) k v
+has_vertex : (r : Read) (k : ℕ) (v : Vertex) → slice_get r.vertices k ≡ Some v → HasVertex (lumps_of r) (places_of_lines r.vertices r.lines) k v
 has_vertex r k v e =
-    let places : ℕ = places_of r.vertices r.lines in
+    let places : ℕ = places_of_lines r.vertices r.lines in
     let s = stands (vertex_bytes places) 8 (vertex_wide places) r.vertices k v e in
     let xs : List ℕ = flat_map (vertex_bytes places) r.vertices in
     let ys : List ℕ = vertex_bytes places v ++ s.more in
@@ -154,7 +154,7 @@ pub records_stand : RecordsStand
 records_stand r = record {
   linedefs = all_length linedef_bytes 14 linedef_wide r.lines;
   sidedefs = all_length sidedef_bytes 30 sidedef_wide r.sides;
-  vertexes = all_length (vertex_bytes (places_of r.vertices r.lines)) 8 (vertex_wide (places_of r.vertices r.lines)) r.vertices;
+  vertexes = all_length (vertex_bytes (places_of_lines r.vertices r.lines)) 8 (vertex_wide (places_of_lines r.vertices r.lines)) r.vertices;
   sectors = length-replicate {A = ℕ} (26 * r.sectors) 0;
   line = has_line r;
   side = has_side r;

@@ -9,15 +9,15 @@ use Rattle.udmf_map.specs.declared.blocks.Linedef.{Linedef}
 
 -- ---- the unit, by its decimal places
 
-abbrev pub places_in : Coordinate → ℕ
-places_in Missing = 0
-places_in OffGrid = 0
-places_in (At n places) = places
+abbrev pub places_of_coordinate : Coordinate → ℕ
+places_of_coordinate Missing = 0
+places_of_coordinate OffGrid = 0
+places_of_coordinate (At n places) = places
 
 -- those of the vertex with this number
 abbrev pub end_places : List Vertex → ℤ → ℕ
 end_places vertices (pos n) = elim (slice_get vertices n) [
-  | Some v ↦ max (places_in v.x) (places_in v.y)
+  | Some v ↦ max (places_of_coordinate v.x) (places_of_coordinate v.y)
   | None ↦ 0
 ]
 end_places vertices (negsuc n) = 0
@@ -25,9 +25,9 @@ end_places vertices (negsuc n) = 0
 abbrev pub line_places : List Vertex → Linedef → ℕ
 line_places vertices l = max (end_places vertices l.first) (end_places vertices l.second)
 
-abbrev pub places_of : List Vertex → List Linedef → ℕ
-places_of vertices [] = 0
-places_of vertices (l ∷ ls) = max (line_places vertices l) (places_of vertices ls)
+abbrev pub places_of_lines : List Vertex → List Linedef → ℕ
+places_of_lines vertices [] = 0
+places_of_lines vertices (l ∷ ls) = max (line_places vertices l) (places_of_lines vertices ls)
 
 -- ---- a coordinate in the unit of so many places: on the grid are whole numbers that are no farther than 2^25 from 0
 

@@ -8,7 +8,7 @@ use Rattle.udmf_map.specs.declared.blocks.Linedef.{Linedef}
 use Rattle.udmf_map.specs.declared.lumps.FourLumps.{FourLumps}
 use Rattle.udmf_map.specs.declared.faults.TextFault.{TextFault}
 use Rattle.udmf_map.specs.Reading.{Read, text_read}
-use Rattle.udmf_map.specs.Grid.{places_of, units}
+use Rattle.udmf_map.specs.Grid.{places_of_lines, units}
 use Rattle.udmf_map.specs.Checks.{records_fault}
 
 pub record LumpBytes : Type 0 where
@@ -29,16 +29,16 @@ number (pos n) = if nat_le n 65534 then n else 65535
 number (negsuc n) = 65535
 
 -- the number of a side, of which there are fewer than 65,535; none is -1 in the text and 65,535 in the lump
-abbrev pub side_number : ℤ → ℕ
-side_number (pos n) = if nat_le n 65533 then n else 65534
-side_number (negsuc n) = if n == 0 then 65535 else 65534
+abbrev pub side_number_in_lump : ℤ → ℕ
+side_number_in_lump (pos n) = if nat_le n 65533 then n else 65534
+side_number_in_lump (negsuc n) = if n == 0 then 65535 else 65534
 
 -- two-sided, and blocks sound
 abbrev pub flags : Linedef → ℕ
 flags l = (if l.two_sided then 4 else 0) + (if l.blocks_sound then 64 else 0)
 
 unfoldable pub linedef_bytes : Linedef → List ℕ
-linedef_bytes l = u16 (number l.first) ++ u16 (number l.second) ++ u16 (flags l) ++ replicate 4 0 ++ u16 (side_number l.front) ++ u16 (side_number l.back)
+linedef_bytes l = u16 (number l.first) ++ u16 (number l.second) ++ u16 (flags l) ++ replicate 4 0 ++ u16 (side_number_in_lump l.front) ++ u16 (side_number_in_lump l.back)
 
 abbrev pub sidedef_bytes : ℤ → List ℕ
 sidedef_bytes sector = replicate 28 0 ++ u16 (number sector)
@@ -54,7 +54,7 @@ abbrev pub vertex_bytes : ℕ → Vertex → List ℕ
 vertex_bytes places v = i32 (placed places v.x) ++ i32 (placed places v.y)
 
 abbrev pub lumps_of : Read → LumpBytes
-lumps_of r = record { linedefs = flat_map linedef_bytes r.lines; sidedefs = flat_map sidedef_bytes r.sides; vertexes = flat_map (vertex_bytes (places_of r.vertices r.lines)) r.vertices; sectors = replicate (26 * r.sectors) 0 }
+lumps_of r = record { linedefs = flat_map linedef_bytes r.lines; sidedefs = flat_map sidedef_bytes r.sides; vertexes = flat_map (vertex_bytes (places_of_lines r.vertices r.lines)) r.vertices; sectors = replicate (26 * r.sectors) 0 }
 
 abbrev pub lumps_or : Option TextFault → LumpBytes → Result LumpBytes TextFault
 lumps_or (Some fault) lumps = Err fault
@@ -70,6 +70,6 @@ lumps_of_text text = elim (text_read text) [
 -- the decimal places of the unit in which the points of a text are told, 0 where it has a fault
 abbrev pub places_told : List ℕ → ℕ
 places_told text = elim (text_read text) [
-  | Ok r ↦ places_of r.vertices r.lines
+  | Ok r ↦ places_of_lines r.vertices r.lines
   | Err fault ↦ 0
 ]

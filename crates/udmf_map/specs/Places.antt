@@ -3,9 +3,9 @@ use Rattle.std.specs.Prelude.{ℕ, ◌+◌, ◌==◌, List, [], ◌∷◌, take,
 use Rattle.udmf_map.specs.declared.places.Place.{Place}
 
 -- where one stands behind these bytes, from some place on
-abbrev pub place_behind : Place → List ℕ → Place
-place_behind p [] = p
-place_behind p (c ∷ cs) = if c == 10 then place_behind (record { row = p.row + 1; column = 1 }) cs else place_behind (record { row = p.row; column = p.column + 1 }) cs
+abbrev pub place_behind_bytes : Place → List ℕ → Place
+place_behind_bytes p [] = p
+place_behind_bytes p (c ∷ cs) = if c == 10 then place_behind_bytes (record { row = p.row + 1; column = 1 }) cs else place_behind_bytes (record { row = p.row; column = p.column + 1 }) cs
 
-abbrev pub place_of : List ℕ → ℕ → Place
-place_of text at = place_behind (record { row = 1; column = 1 }) (take at text)
+abbrev pub place_in_text : List ℕ → ℕ → Place
+place_in_text text at = place_behind_bytes (record { row = 1; column = 1 }) (take at text)

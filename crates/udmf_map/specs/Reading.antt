@@ -10,7 +10,7 @@ use Rattle.udmf_map.specs.declared.reading.Namespace.TheVariants as names
 use Rattle.udmf_map.specs.declared.faults.TextFault.{TextFault}
 use Rattle.udmf_map.specs.declared.faults.TextFault.TheVariants as faults
 use Rattle.udmf_text.specs.Parts.{GivenBytes, PartBytes, Item, Opens, Gives, Closes}
-use Rattle.udmf_text.specs.Told.{PlacedPart, told_of}
+use Rattle.udmf_text.specs.Told.{PlacedPart, told_of_text}
 use Rattle.udmf_map.specs.Values.{is_word}
 use Rattle.udmf_map.specs.Blocks.{block_named, block_with}
 
@@ -108,16 +108,16 @@ parts_read total r (p ∷ ps) fault = elim (part_read r p.at p.part) [
 
 -- what a text tells
 abbrev pub text_read : List ℕ → Result Read TextFault
-text_read text = parts_read (length text) nothing_read (told_of text).parts (told_of text).fault
+text_read text = parts_read (length text) nothing_read (told_of_text text).parts (told_of_text text).fault
 
 -- the answer of a call is this one, unless memory ran out
-abbrev pub Fails : {Y : Type 0} → TextFault → Result Y TextFault → Type 0
-Fails (faults.Memory _) told = ⊤
-Fails e told = told ≡ Err e
+abbrev pub FailsText : {Y : Type 0} → TextFault → Result Y TextFault → Type 0
+FailsText (faults.Memory _) told = ⊤
+FailsText e told = told ≡ Err e
 
-abbrev pub Answers : {X Y : Type 0} → (X → Y) → Result X TextFault → Result Y TextFault → Type 0
-Answers view (Ok x) told = told ≡ Ok (view x)
-Answers view (Err e) told = Fails e told
+abbrev pub AnswersText : {X Y : Type 0} → (X → Y) → Result X TextFault → Result Y TextFault → Type 0
+AnswersText view (Ok x) told = told ≡ Ok (view x)
+AnswersText view (Err e) told = FailsText e told
 
 abbrev pub read_of : Records → Read
 read_of r = record { begun = r.begun; namespace = r.namespace; block = r.block; vertices = r.vertices.items; lines = r.lines.items; sides = r.sides.items; sectors = r.sectors }

@@ -2,7 +2,7 @@
 use Rattle.std.specs.Prelude.{◌≡◌, ℕ, List, [], ◌∷◌, flat_map, Option, Some, None, Ok, ℤ}
 use Rattle.udmf_text.specs.declared.text_tokens.token.Kind.TheVariants.{Quoted}
 use Rattle.udmf_text.specs.Parts.{is_kind, GivenBytes}
-use Rattle.udmf_text.specs.Told.{told_of}
+use Rattle.udmf_text.specs.Told.{told_of_text}
 use Rattle.udmf_text.specs.Grammar.{Assignment, TextItem, Assigned, Blocked, IsText}
 use Rattle.udmf_map.specs.declared.blocks.Vertex.{Vertex}
 use Rattle.udmf_map.specs.declared.blocks.Linedef.{Linedef}
@@ -72,4 +72,4 @@ pub record AreRecords (items : List TextItem) (r : Read) : Type 0 where
 
 -- a text that is read has the records of its blocks
 abbrev pub ReadsBlocks : Type 0
-ReadsBlocks = (text : List ℕ) (r : Read) → text_read text ≡ Ok r → (t : IsText text (told_of text).parts) × AreRecords t.items r
+ReadsBlocks = (text : List ℕ) (r : Read) → text_read text ≡ Ok r → (t : IsText text (told_of_text text).parts) × AreRecords t.items r

@@ -45,8 +45,8 @@ abbrev pub of_whole : ℤ → Decimal
 of_whole z = record { negative = int_lt z (pos 0); mantissa = nat_abs z; scale = pos 0 }
 
 -- the number that a word spells: a whole one, or one with a point or an exponent
-abbrev pub number_of : List ℕ → Option Decimal
-number_of word = elim (whole_of word) [
+abbrev pub decimal_in_word : List ℕ → Option Decimal
+decimal_in_word word = elim (whole_of word) [
   | Some z ↦ Some (of_whole z)
   | None ↦ decimal_of word
 ]
@@ -62,12 +62,12 @@ lowered negative m zero = signed negative m 0
 lowered negative m (suc k) = if m % 10 == 0 then lowered negative (m / 10) k else signed negative m (suc k)
 
 -- a number times a power of ten
-abbrev pub scaled : Bool → ℕ → ℤ → Coordinate
-scaled negative m (pos k) = signed negative (m * 10 ^ k) 0
-scaled negative m (negsuc k) = lowered negative m (suc k)
+abbrev pub scaled_coordinate : Bool → ℕ → ℤ → Coordinate
+scaled_coordinate negative m (pos k) = signed negative (m * 10 ^ k) 0
+scaled_coordinate negative m (negsuc k) = lowered negative m (suc k)
 
 abbrev pub coordinate_of : Decimal → Coordinate
-coordinate_of d = scaled d.negative d.mantissa d.scale
+coordinate_of d = scaled_coordinate d.negative d.mantissa d.scale
 
 abbrev pub coordinate_given : GivenBytes → Option Coordinate
-coordinate_given g = option_then (word_given g) (λ word. option_map coordinate_of (number_of word))
+coordinate_given g = option_then (word_given g) (λ word. option_map coordinate_of (decimal_in_word word))

@@ -2,7 +2,7 @@
 
 ghost use Rattle.std.specs.Prelude.{◌≡◌};
 ghost use Rattle.udmf_map.specs.Reading.{read_of};
-ghost use Rattle.udmf_map.specs.Checks.{has_portals as has_portals_lem, is_portal as is_portal_lem, first_from, portal_of as portal_of_lem, records_fault as records_fault_lem};
+ghost use Rattle.udmf_map.specs.Checks.{has_portals as has_portals_lem, is_portal as is_portal_lem, first_from, first_portal_line as portal_of_lem, records_fault as records_fault_lem};
 
 use crate::blocks::Linedef;
 use crate::faults::TextFault;

@@ -1,7 +1,7 @@
 //! The grid of a map: its unit is that of the most decimal places that a vertex of a line has.
 
 ghost use Rattle.std.specs.Prelude.{◌≡◌, ◌≤◌, ◌^◌, ◌*ℤ◌, pos};
-ghost use Rattle.udmf_map.specs.Grid.{places_in as places_in_lem, end_places as end_places_lem, line_places as line_places_lem, places_of as places_of_lem, units as units_lem, is_placed as is_placed_lem, end_off_grid as end_off_grid_lem, line_off_grid as line_off_grid_lem, lines_off_grid};
+ghost use Rattle.udmf_map.specs.Grid.{places_of_coordinate as places_in_lem, end_places as end_places_lem, line_places as line_places_lem, places_of_lines as places_of_lem, units as units_lem, is_placed as is_placed_lem, end_off_grid as end_off_grid_lem, line_off_grid as line_off_grid_lem, lines_off_grid};
 
 use crate::blocks::{Linedef, Vertex};
 use crate::values::{Coordinate, MOST_PLACES};

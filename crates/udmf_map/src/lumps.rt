@@ -1,8 +1,8 @@
 //! The four lumps of the map that a text spells, in Doom's format but for VERTEXES, whose coordinates have 32 bits.
 
 ghost use Rattle.std.specs.Prelude.{◌≡◌, ◌*◌, IfOk, flat_map, replicate};
-ghost use Rattle.udmf_map.specs.Reading.{Answers, read_of};
-ghost use Rattle.udmf_map.specs.Lumps.{number as number_lem, side_number as side_number_lem, flags as flags_lem, linedef_bytes, sidedef_bytes, placed as placed_lem, vertex_bytes, lump_bytes, lumps_of as lumps_of_lem, lumps_of_text as lumps_of_text_lem, places_told};
+ghost use Rattle.udmf_map.specs.Reading.{AnswersText, read_of};
+ghost use Rattle.udmf_map.specs.Lumps.{number as number_lem, side_number_in_lump as side_number_lem, flags as flags_lem, linedef_bytes, sidedef_bytes, placed as placed_lem, vertex_bytes, lump_bytes, lumps_of as lumps_of_lem, lumps_of_text as lumps_of_text_lem, places_told};
 
 use crate::blocks::{Linedef, Vertex};
 use crate::checks::records_fault;
@@ -171,7 +171,7 @@ fn lumps_of(alloc: Global, read: &Records) -> Result<FourLumps, AllocError>
 /// vertex of a line that isn't on the grid.
 #[tactic(auto, unfolding(crate::specs::Lumps::lumps_of_text))]
 pub fn lumps_of_text(alloc: Global, text: &[u8]) -> Result<FourLumps, TextFault>
-    ensures { Answers lump_bytes result (lumps_of_text_lem text.now) }
+    ensures { AnswersText lump_bytes result (lumps_of_text_lem text.now) }
 {
     let read = read_text(alloc, text)?;
     if let Some(fault) = records_fault(&read) {

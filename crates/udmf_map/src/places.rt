@@ -1,7 +1,7 @@
 //! Where a byte of a text stands.
 
 ghost use Rattle.std.specs.Prelude.{◌≡◌, ◌≤◌, length};
-ghost use Rattle.udmf_map.specs.Places.{place_of as place_of_lem};
+ghost use Rattle.udmf_map.specs.Places.{place_in_text as place_of_lem};
 
 /// A row and a column, both counted from 1.
 #[derive(Clone, Copy)]

@@ -2,7 +2,7 @@
 
 ghost use Rattle.std.specs.Prelude.{◌≡◌, None, Ok};
 ghost use Rattle.udmf_text.specs.Parts.{given_bytes, part_bytes};
-ghost use Rattle.udmf_map.specs.Reading.{Answers, read_of, nothing_read, namespace_of as namespace_of_lem, item_read, opens_read, outside_read, inside_read, gives_read, counted as counted_lem, closes_read, part_read, ended, text_read};
+ghost use Rattle.udmf_map.specs.Reading.{AnswersText, read_of, nothing_read, namespace_of as namespace_of_lem, item_read, opens_read, outside_read, inside_read, gives_read, counted as counted_lem, closes_read, part_read, ended, text_read};
 
 use crate::blocks::{Block, Linedef, Vertex, block_named, block_with};
 use crate::faults::TextFault;
@@ -77,7 +77,7 @@ fn namespace_of(word: &[u8]) -> Option<Namespace>
 
 /// The name of an item.
 fn item(read: &mut Records, at: usize, name: &[u8]) -> Result<(), TextFault>
-    ensures { Answers (λ _. read_of read.new) result (item_read (read_of read.old) at name.now) }
+    ensures { AnswersText (λ _. read_of read.new) result (item_read (read_of read.old) at name.now) }
 {
     if read.begun == is_word(name, b"namespace") {
         return Err(TextFault::Namespace { at });
@@ -88,7 +88,7 @@ fn item(read: &mut Records, at: usize, name: &[u8]) -> Result<(), TextFault>
 
 /// The block of an item is opened.
 fn opened(read: &mut Records, at: usize, name: &[u8]) -> Result<(), TextFault>
-    ensures { Answers (λ _. read_of read.new) result (opens_read (read_of read.old) at name.now) }
+    ensures { AnswersText (λ _. read_of read.new) result (opens_read (read_of read.old) at name.now) }
 {
     if is_word(name, b"namespace") {
         return Err(TextFault::Text { at });
@@ -99,7 +99,7 @@ fn opened(read: &mut Records, at: usize, name: &[u8]) -> Result<(), TextFault>
 
 /// A value outside of blocks.
 fn outside(read: &mut Records, at: usize, given: &Given<'_>) -> Result<(), TextFault>
-    ensures { Answers (λ _. read_of read.new) result (outside_read (read_of read.old) at (given_bytes given.now)) }
+    ensures { AnswersText (λ _. read_of read.new) result (outside_read (read_of read.old) at (given_bytes given.now)) }
 {
     if !is_word(given.key, b"namespace") {
         return Ok(());
@@ -116,7 +116,7 @@ fn outside(read: &mut Records, at: usize, given: &Given<'_>) -> Result<(), TextF
 
 /// A value in a block.
 fn inside(read: &mut Records, block: Block, at: usize, given: &Given<'_>) -> Result<(), TextFault>
-    ensures { Answers (λ _. read_of read.new) result (inside_read (read_of read.old) block at (given_bytes given.now)) }
+    ensures { AnswersText (λ _. read_of read.new) result (inside_read (read_of read.old) block at (given_bytes given.now)) }
 {
     let Some(more) = block_with(block, given) else {
         return Err(TextFault::Value { at });
@@ -127,7 +127,7 @@ fn inside(read: &mut Records, block: Block, at: usize, given: &Given<'_>) -> Res
 
 /// A value.
 fn gives(read: &mut Records, at: usize, given: &Given<'_>) -> Result<(), TextFault>
-    ensures { Answers (λ _. read_of read.new) result (gives_read (read_of read.old) at (given_bytes given.now)) }
+    ensures { AnswersText (λ _. read_of read.new) result (gives_read (read_of read.old) at (given_bytes given.now)) }
 {
     match read.block {
         Some(block) => inside(read, block, at, given),
@@ -147,7 +147,7 @@ fn counted(sectors: u32) -> u32
 
 /// The block is closed.
 fn closed(read: &mut Records) -> Result<(), TextFault>
-    ensures { Answers (λ _. read_of read.new) result (Ok (closes_read (read_of read.old))) }
+    ensures { AnswersText (λ _. read_of read.new) result (Ok (closes_read (read_of read.old))) }
 {
     match read.block {
         Some(Block::Vertex(v)) => read.vertices.push(v)?,
@@ -162,7 +162,7 @@ fn closed(read: &mut Records) -> Result<(), TextFault>
 
 /// One more part, whose token begins at this byte.
 fn add(read: &mut Records, at: usize, part: &Part<'_>) -> Result<(), TextFault>
-    ensures { Answers (λ _. read_of read.new) result (part_read (read_of read.old) at (part_bytes part.now)) }
+    ensures { AnswersText (λ _. read_of read.new) result (part_read (read_of read.old) at (part_bytes part.now)) }
 {
     match *part {
         Part::Item(name) => item(read, at, name),
@@ -174,7 +174,7 @@ fn add(read: &mut Records, at: usize, part: &Part<'_>) -> Result<(), TextFault>
 
 /// A text has an item at least.
 fn is_begun(read: &Records, at: usize) -> Result<(), TextFault>
-    ensures { Answers (λ _. read_of read.now) result (ended at (read_of read.now) None) }
+    ensures { AnswersText (λ _. read_of read.now) result (ended at (read_of read.now) None) }
 {
     if read.begun {
         Ok(())
@@ -186,7 +186,7 @@ fn is_begun(read: &Records, at: usize) -> Result<(), TextFault>
 /// Reads all parts of a text.
 fn read_parts(read: &mut Records, text: &[u8]) -> Result<(), TextFault>
     requires { read_of read.old ≡ nothing_read }
-    ensures { Answers (λ _. read_of read.new) result (text_read text.now) }
+    ensures { AnswersText (λ _. read_of read.new) result (text_read text.now) }
 {
     let mut stage = Stage::Outside;
     let mut rest = text;
@@ -209,7 +209,7 @@ fn read_parts(read: &mut Records, text: &[u8]) -> Result<(), TextFault>
 
 /// What a text tells, or its first fault.
 pub fn read_text(alloc: Global, text: &[u8]) -> Result<Records, TextFault>
-    ensures { Answers read_of result (text_read text.now) }
+    ensures { AnswersText read_of result (text_read text.now) }
 {
     let mut read = nothing(alloc);
     read_parts(&mut read, text)?;

@@ -2,7 +2,7 @@
 
 ghost use Rattle.std.specs.Prelude.{◌≡◌, ◌≤◌, ◌*◌, ◌^◌, option_map};
 ghost use Rattle.udmf_text.specs.Parts.{given_bytes};
-ghost use Rattle.udmf_map.specs.Values.{is_word as is_word_lem, word_given, saturated as saturated_lem, whole_given, truth_given, of_whole as of_whole_lem, number_of, signed as signed_lem, lowered as lowered_lem, coordinate_of, coordinate_given};
+ghost use Rattle.udmf_map.specs.Values.{is_word as is_word_lem, word_given, saturated as saturated_lem, whole_given, truth_given, of_whole as of_whole_lem, decimal_in_word, signed as signed_lem, lowered as lowered_lem, coordinate_of, coordinate_given};
 
 use sight_names::FARTHEST;
 use udmf_text::Given;
@@ -84,7 +84,7 @@ fn of_whole(n: i128) -> Decimal
 
 /// The number that a word spells.
 fn number(word: &[u8]) -> Option<Decimal>
-    ensures { result ≡ number_of word.now }
+    ensures { result ≡ decimal_in_word word.now }
 {
     match whole_number(word) {
         Some(n) => Some(of_whole(n)),

@@ -2,8 +2,8 @@
 use Rattle.std.proofs.Common.{◌≡◌, ◌≢◌, ◌≤◌, ◌<◌, ℕ, suc, eqb, Bool, true, false, cond, List, [], ◌∷◌, ◌++◌, length, Option, Some, None, Result, Ok, Err, refl, sym, ap, ◌∙◌, subst, arith, length-append}
 use Rattle.udmf_text.specs.TextTokens.Between.{left_behind}
 use Rattle.udmf_text.specs.TextTokens.Laws.{IsBehindGap, none, blank, line, last_line, block}
-use Rattle.udmf_text.specs.TextTokens.Tokens.{TokenParts, mark_of, quoted_of, word_of, token_of}
-use Rattle.udmf_text.specs.TextTokens.Text.{PlacedParts, at_front, next_of}
+use Rattle.udmf_text.specs.TextTokens.Tokens.{TokenParts, mark_of, quoted_of, word_token_of, token_of}
+use Rattle.udmf_text.specs.TextTokens.Text.{PlacedParts, at_front, first_token_of}
 use Rattle.udmf_text.proofs.TextTokens.Gaps.{gaps_end}
 use Rattle.udmf_text.proofs.TextTokens.TokenForms.{strings_end, words_are_longest}
 use Rattle.udmf_text.specs.declared.text_tokens.token.Kind.{Kind}
@@ -38,7 +38,7 @@ some_bytes : (bytes rest text : List ℕ) → text ≡ bytes ++ rest → bytes �
 some_bytes [] rest text e some = absurd (some refl)
 some_bytes (b ∷ bs) rest text e some = omega (arith, ap length e, length-append bs rest)
 
-below_word : (text : List ℕ) → Below (length text) (word_of text)
+below_word : (text : List ℕ) → Below (length text) (word_token_of text)
 below_word text t e =
     let w = (words_are_longest text t).0 e in
     some_bytes t.bytes t.rest text w.is w.some
@@ -47,11 +47,11 @@ token_shorter : (c : ℕ) (cs : List ℕ) → Below (suc (length cs)) (token_of 
 token_shorter c cs =
     let n = suc (length cs) in
     let word = below_word (c ∷ cs) in
-    let fifth = below_if n (eqb c 34) (quoted_of cs) (word_of (c ∷ cs)) (below_string cs) word in
-    let fourth = below_if n (eqb c 59) (Some (mark_of kind.End cs)) (cond (eqb c 34) (quoted_of cs) (word_of (c ∷ cs))) (below_mark kind.End cs) fifth in
-    let third = below_if n (eqb c 61) (Some (mark_of kind.Is cs)) (cond (eqb c 59) (Some (mark_of kind.End cs)) (cond (eqb c 34) (quoted_of cs) (word_of (c ∷ cs)))) (below_mark kind.Is cs) fourth in
-    let second = below_if n (eqb c 125) (Some (mark_of kind.Close cs)) (cond (eqb c 61) (Some (mark_of kind.Is cs)) (cond (eqb c 59) (Some (mark_of kind.End cs)) (cond (eqb c 34) (quoted_of cs) (word_of (c ∷ cs))))) (below_mark kind.Close cs) third in
-    below_if n (eqb c 123) (Some (mark_of kind.Open cs)) (cond (eqb c 125) (Some (mark_of kind.Close cs)) (cond (eqb c 61) (Some (mark_of kind.Is cs)) (cond (eqb c 59) (Some (mark_of kind.End cs)) (cond (eqb c 34) (quoted_of cs) (word_of (c ∷ cs)))))) (below_mark kind.Open cs) second
+    let fifth = below_if n (eqb c 34) (quoted_of cs) (word_token_of (c ∷ cs)) (below_string cs) word in
+    let fourth = below_if n (eqb c 59) (Some (mark_of kind.End cs)) (cond (eqb c 34) (quoted_of cs) (word_token_of (c ∷ cs))) (below_mark kind.End cs) fifth in
+    let third = below_if n (eqb c 61) (Some (mark_of kind.Is cs)) (cond (eqb c 59) (Some (mark_of kind.End cs)) (cond (eqb c 34) (quoted_of cs) (word_token_of (c ∷ cs)))) (below_mark kind.Is cs) fourth in
+    let second = below_if n (eqb c 125) (Some (mark_of kind.Close cs)) (cond (eqb c 61) (Some (mark_of kind.Is cs)) (cond (eqb c 59) (Some (mark_of kind.End cs)) (cond (eqb c 34) (quoted_of cs) (word_token_of (c ∷ cs))))) (below_mark kind.Close cs) third in
+    below_if n (eqb c 123) (Some (mark_of kind.Open cs)) (cond (eqb c 125) (Some (mark_of kind.Close cs)) (cond (eqb c 61) (Some (mark_of kind.Is cs)) (cond (eqb c 59) (Some (mark_of kind.End cs)) (cond (eqb c 34) (quoted_of cs) (word_token_of (c ∷ cs)))))) (below_mark kind.Open cs) second
 
 front_some : (c : ℕ) (cs : List ℕ) (t : TokenParts) → token_of (c ∷ cs) ≡ Some t → at_front (c ∷ cs) ≡ Ok (Some (record { left = suc (length cs); token = t }))
 front_some c cs t e = rw (e, at_front) refl
@@ -70,13 +70,13 @@ front_shorter (c ∷ cs) p e = by_token (token_of (c ∷ cs)) refl
         let same : record { left = suc (length cs); token = t } ≡ p = cc in
         subst (λ (x : PlacedParts). length x.token.rest < suc (length cs)) same (token_shorter c cs t h)
 
-next_is : (text here : List ℕ) → left_behind text ≡ Ok here → next_of text ≡ at_front here
-next_is text here e = rw (e, next_of) refl
+next_is : (text here : List ℕ) → left_behind text ≡ Ok here → first_token_of text ≡ at_front here
+next_is text here e = rw (e, first_token_of) refl
 
-next_broken : (text opened : List ℕ) → left_behind text ≡ Err opened → next_of text ≡ Err (length opened)
-next_broken text opened e = rw (e, next_of) refl
+next_broken : (text opened : List ℕ) → left_behind text ≡ Err opened → first_token_of text ≡ Err (length opened)
+next_broken text opened e = rw (e, first_token_of) refl
 
-pub next_shorter : (text : List ℕ) (p : PlacedParts) → next_of text ≡ Ok (Some p) → length p.token.rest < length text
+pub next_shorter : (text : List ℕ) (p : PlacedParts) → first_token_of text ≡ Ok (Some p) → length p.token.rest < length text
 next_shorter text p e = by_left (left_behind text) refl
   where
     by_left : (l : Result (List ℕ) (List ℕ)) → left_behind text ≡ l → length p.token.rest < length text

@@ -8,9 +8,9 @@ use Rattle.std.specs.Prelude.{◌≡◌, ℕ, ◌-◌, ◌||◌, ◌&&◌, true,
 use Rattle.std.specs.List.{list_all, AllByRecursion}
 use Rattle.udmf_text.specs.declared.text_tokens.token.Kind.{Kind}
 use Rattle.udmf_text.specs.declared.text_tokens.token.Kind.TheVariants.{Open, Close, Is, End, Word, Quoted}
-use Rattle.udmf_text.specs.TextTokens.Text.{PlacedParts, next_of}
+use Rattle.udmf_text.specs.TextTokens.Text.{PlacedParts, first_token_of}
 use Rattle.udmf_text.specs.Parts.{is_kind, is_of_name, PartBytes, Item, Opens, Gives, Closes}
-use Rattle.udmf_text.specs.Told.{PlacedPart, told_of}
+use Rattle.udmf_text.specs.Told.{PlacedPart, told_of_text}
 
 -- ---- tokens
 
@@ -80,19 +80,19 @@ at_token total t part = record { at = total - t.left; part = part }
 abbrev pub gives : ℕ → Assignment → PlacedPart
 gives total a = at_token total a.value (Gives (record { key = a.name.token.bytes; quoted = is_kind a.value.token.kind Quoted; value = a.value.token.bytes }))
 
-abbrev pub named : ℕ → PlacedParts → PlacedPart
-named total name = at_token total name (Item name.token.bytes)
+abbrev pub item_named : ℕ → PlacedParts → PlacedPart
+item_named total name = at_token total name (Item name.token.bytes)
 
 abbrev pub item_parts : ℕ → TextItem → List PlacedPart
-item_parts total (Assigned a) = named total a.name ∷ gives total a ∷ []
-item_parts total (Blocked b) = named total b.name ∷ at_token total b.open_brace (Opens b.name.token.bytes) ∷ (map (gives total) b.pairs ++ at_token total b.close_brace Closes ∷ [])
+item_parts total (Assigned a) = item_named total a.name ∷ gives total a ∷ []
+item_parts total (Blocked b) = item_named total b.name ∷ at_token total b.open_brace (Opens b.name.token.bytes) ∷ (map (gives total) b.pairs ++ at_token total b.close_brace Closes ∷ [])
 
 -- ---- a text and its tokens
 
 -- these are the first tokens of a text, and `rest` is left behind them
 pub data Begins (rest : List ℕ) : List ℕ → List PlacedParts → Type 0 where
   no_token : {text : List ℕ} {ts : List PlacedParts} → text ≡ rest → ts ≡ [] → Begins rest text ts
-  one_token : {text : List ℕ} {ts : List PlacedParts} (t : PlacedParts) (more : List PlacedParts) → next_of text ≡ Ok (Some t) → ts ≡ t ∷ more → Begins rest t.token.rest more → Begins rest text ts
+  one_token : {text : List ℕ} {ts : List PlacedParts} (t : PlacedParts) (more : List PlacedParts) → first_token_of text ≡ Ok (Some t) → ts ≡ t ∷ more → Begins rest t.token.rest more → Begins rest text ts
 
 -- the text is items, and these are their parts
 pub record IsText (text : List ℕ) (parts : List PlacedPart) : Type 0 where
@@ -101,7 +101,7 @@ pub record IsText (text : List ℕ) (parts : List PlacedPart) : Type 0 where
   pub are : AreItems tokens items
   pub rest : List ℕ
   pub begins : Begins rest text tokens
-  pub ends : next_of rest ≡ Ok None
+  pub ends : first_token_of rest ≡ Ok None
   pub made : parts ≡ flat_map (item_parts (length text)) items
 
 -- behind these tokens the text can't go on as it does: no token begins there, or the text ends and isn't whole, or the
@@ -122,12 +122,12 @@ pub record IsFault (text : List ℕ) (parts : List PlacedPart) (at : ℕ) : Type
   pub fits : AreItems (before ++ more) items
   pub others : List PlacedPart
   pub made : flat_map (item_parts (length text)) items ≡ parts ++ others
-  pub breaks : BreaksOff (length text) before (next_of rest) at
+  pub breaks : BreaksOff (length text) before (first_token_of rest) at
 
-abbrev pub IsTold : List ℕ → List PlacedPart → Option ℕ → Type 0
-IsTold text parts None = IsText text parts
-IsTold text parts (Some at) = IsFault text parts at
+abbrev pub IsTextTold : List ℕ → List PlacedPart → Option ℕ → Type 0
+IsTextTold text parts None = IsText text parts
+IsTextTold text parts (Some at) = IsFault text parts at
 
 -- a text without a fault is items, whose parts are told; and a fault is where no item goes on so
 abbrev pub TellsItems : Type 0
-TellsItems = (text : List ℕ) → IsTold text (told_of text).parts (told_of text).fault
+TellsItems = (text : List ℕ) → IsTextTold text (told_of_text text).parts (told_of_text text).fault

@@ -14,7 +14,7 @@ use Rattle.udmf_text.specs.declared.parts.Part.TheVariants as parts
 use Rattle.udmf_text.specs.declared.parts.Stage.{Stage}
 use Rattle.udmf_text.specs.declared.parts.Stage.TheVariants as stages
 use Rattle.udmf_text.specs.declared.parts.Found.{Found}
-use Rattle.udmf_text.specs.TextTokens.Text.{PlacedParts, next_of}
+use Rattle.udmf_text.specs.TextTokens.Text.{PlacedParts, first_token_of}
 
 -- ---- what is read, its bytes in place of what refers to them
 
@@ -92,8 +92,8 @@ is_there (Some x) = Ok x
 -- the first token of a text, which mustn't end before it
 unfoldable pub token_at : List ℕ → Result PlacedParts ℕ
 token_at text = do
-  found ← next_of text
-  is_there found
+  found_part ← first_token_of text
+  is_there found_part
 
 abbrev pub rank : Kind → ℕ
 rank Open = 0
@@ -111,8 +111,8 @@ abbrev pub is_of_name : ℕ → Bool
 is_of_name c = is_ascii_alphanumeric c || c == 95
 
 -- the name that a token is: a word of such bytes
-abbrev pub name_of : PlacedParts → Result (List ℕ) ℕ
-name_of t = passed (is_kind t.token.kind Word && list_all is_of_name t.token.bytes) t.left t.token.bytes
+abbrev pub name_in_token : PlacedParts → Result (List ℕ) ℕ
+name_in_token t = passed (is_kind t.token.kind Word && list_all is_of_name t.token.bytes) t.left t.token.bytes
 
 -- what is left behind a token of one kind
 unfoldable pub behind_mark : Kind → List ℕ → Result (List ℕ) ℕ
@@ -122,40 +122,40 @@ behind_mark kind text = do
 
 -- ---- parts
 
-abbrev pub found : ℕ → PartBytes → StageBytes → List ℕ → FoundBytes
-found left part stage rest = record { left = left; part = part; stage = stage; rest = rest }
+abbrev pub found_part : ℕ → PartBytes → StageBytes → List ℕ → FoundBytes
+found_part left part stage rest = record { left = left; part = part; stage = stage; rest = rest }
 
 -- behind the equals sign a value, a word or a string
 unfoldable pub value_at : List ℕ → StageBytes → List ℕ → Result FoundBytes ℕ
 value_at key stage text = do
   t ← token_at text
-  passed (is_kind t.token.kind Word || is_kind t.token.kind Quoted) t.left (found t.left (Gives (record { key = key; quoted = is_kind t.token.kind Quoted; value = t.token.bytes })) stage t.token.rest)
+  passed (is_kind t.token.kind Word || is_kind t.token.kind Quoted) t.left (found_part t.left (Gives (record { key = key; quoted = is_kind t.token.kind Quoted; value = t.token.bytes })) stage t.token.rest)
 
 -- outside of blocks the name of an item, or the end
 unfoldable pub item_at : List ℕ → Result (Option FoundBytes) ℕ
 item_at text = do
-  t ← next_of text
+  t ← first_token_of text
   elim t [
     | None ↦ Ok None
     | Some t ↦ do
-      name ← name_of t
-      Ok (Some (found t.left (Item name) (Behind name) t.token.rest))
+      name ← name_in_token t
+      Ok (Some (found_part t.left (Item name) (Behind name) t.token.rest))
   ]
 
 -- behind the name of an item a brace, or an equals sign and a value
 unfoldable pub behind_name : List ℕ → List ℕ → Result FoundBytes ℕ
 behind_name name text = do
   t ← token_at text
-  if is_kind t.token.kind Open then Ok (found t.left (Opens name) Inside t.token.rest)
+  if is_kind t.token.kind Open then Ok (found_part t.left (Opens name) Inside t.token.rest)
       else (if is_kind t.token.kind Is then value_at name Valued t.token.rest else Err t.left)
 
 -- in a block its end, or a key, an equals sign and a value
 unfoldable pub inside_at : List ℕ → Result FoundBytes ℕ
 inside_at text = do
   t ← token_at text
-  if is_kind t.token.kind Close then Ok (found t.left Closes Outside t.token.rest)
+  if is_kind t.token.kind Close then Ok (found_part t.left Closes Outside t.token.rest)
       else (do
-        key ← name_of t
+        key ← name_in_token t
         more ← behind_mark Is t.token.rest
         value_at key ValuedInside more)
 

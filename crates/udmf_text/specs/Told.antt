@@ -27,5 +27,5 @@ told_in total (suc n) stage rest = elim (part_at stage rest) [
 ]
 
 -- each part takes a byte at least, so none is left out
-abbrev pub told_of : List ℕ → Told
-told_of text = told_in (length text) (length text + 1) Outside text
+abbrev pub told_of_text : List ℕ → Told
+told_of_text text = told_in (length text) (length text + 1) Outside text

@@ -2,9 +2,9 @@
 
 ghost use Rattle.std.specs.Prelude.{◌≡◌, ◌<◌, ◌≤◌, IfOk, IfSome, length, option_map};
 ghost use Rattle.std.specs.List.{list_all};
-ghost use Rattle.udmf_text.specs.TextTokens.Between.{GivesExactly};
+ghost use Rattle.udmf_text.specs.TextTokens.Between.{GivesTokensExactly};
 ghost use Rattle.udmf_text.specs.TextTokens.Text.{placed_of};
-ghost use Rattle.udmf_text.specs.Parts.{is_kind as is_kind_lem, is_of_name, name_of as name_of_lem, token_at, behind_mark as behind_mark_lem, value_at, item_at, behind_name as behind_name_lem, inside_at, part_at, stage_bytes, found_bytes};
+ghost use Rattle.udmf_text.specs.Parts.{is_kind as is_kind_lem, is_of_name, name_in_token as name_of_lem, token_at, behind_mark as behind_mark_lem, value_at, item_at, behind_name as behind_name_lem, inside_at, part_at, stage_bytes, found_bytes};
 
 use crate::text_tokens::{Kind, Placed, next_token};
 
@@ -68,7 +68,7 @@ fn is_name(word: &[u8]) -> bool
 
 /// The name that a token is.
 fn name_of(t: Placed<'_>) -> Result<&[u8], usize>
-    ensures { GivesExactly (λ name. name.now) (λ left. left) result (name_of_lem (placed_of t.entry)) }
+    ensures { GivesTokensExactly (λ name. name.now) (λ left. left) result (name_of_lem (placed_of t.entry)) }
 {
     if is_kind(t.token.kind, Kind::Word) && is_name(t.token.bytes) {
         Ok(t.token.bytes)
@@ -80,7 +80,7 @@ fn name_of(t: Placed<'_>) -> Result<&[u8], usize>
 /// The first token of a text, which mustn't end before it.
 #[tactic(auto, unfolding(crate::specs::Parts::token_at))]
 fn some_token(text: &[u8]) -> Result<Placed<'_>, usize>
-    ensures token { GivesExactly placed_of (λ left. left) result (token_at text.now) }
+    ensures token { GivesTokensExactly placed_of (λ left. left) result (token_at text.now) }
     ensures shorter { IfOk result (λ t. length t.token.rest.now < length text.now) }
 {
     match next_token(text)? {
@@ -92,7 +92,7 @@ fn some_token(text: &[u8]) -> Result<Placed<'_>, usize>
 /// What is left behind a token of one kind.
 #[tactic(auto, unfolding(crate::specs::Parts::behind_mark))]
 fn behind_mark(kind: Kind, text: &[u8]) -> Result<&[u8], usize>
-    ensures left { GivesExactly (λ rest. rest.now) (λ left. left) result (behind_mark_lem kind text.now) }
+    ensures left { GivesTokensExactly (λ rest. rest.now) (λ left. left) result (behind_mark_lem kind text.now) }
     ensures shorter { IfOk result (λ rest. length rest.now < length text.now) }
 {
     let t = some_token(text)?;
@@ -106,7 +106,7 @@ fn behind_mark(kind: Kind, text: &[u8]) -> Result<&[u8], usize>
 /// Behind the equals sign a value.
 #[tactic(auto, unfolding(crate::specs::Parts::value_at))]
 fn value<'a>(key: &'a [u8], stage: Stage<'a>, text: &'a [u8]) -> Result<Found<'a>, usize>
-    ensures part { GivesExactly found_bytes (λ left. left) result (value_at key.now (stage_bytes stage.entry) text.now) }
+    ensures part { GivesTokensExactly found_bytes (λ left. left) result (value_at key.now (stage_bytes stage.entry) text.now) }
     ensures shorter { IfOk result (λ f. length f.rest.now < length text.now) }
 {
     let t = some_token(text)?;
@@ -129,7 +129,7 @@ fn value<'a>(key: &'a [u8], stage: Stage<'a>, text: &'a [u8]) -> Result<Found<'a
 /// Outside of blocks the name of an item, None at the end.
 #[tactic(auto, unfolding(crate::specs::Parts::item_at))]
 fn item(text: &[u8]) -> Result<Option<Found<'_>>, usize>
-    ensures part { GivesExactly (option_map found_bytes) (λ left. left) result (item_at text.now) }
+    ensures part { GivesTokensExactly (option_map found_bytes) (λ left. left) result (item_at text.now) }
     ensures shorter { IfOk result (λ found. IfSome found (λ f. length f.rest.now < length text.now)) }
 {
     let Some(t) = next_token(text)? else {
@@ -147,7 +147,7 @@ fn item(text: &[u8]) -> Result<Option<Found<'_>>, usize>
 /// Behind the name of an item the brace that opens its block, or its value.
 #[tactic(auto, unfolding(crate::specs::Parts::behind_name))]
 fn behind_name<'a>(name: &'a [u8], text: &'a [u8]) -> Result<Found<'a>, usize>
-    ensures part { GivesExactly found_bytes (λ left. left) result (behind_name_lem name.now text.now) }
+    ensures part { GivesTokensExactly found_bytes (λ left. left) result (behind_name_lem name.now text.now) }
     ensures shorter { IfOk result (λ f. length f.rest.now < length text.now) }
 {
     let t = some_token(text)?;
@@ -168,7 +168,7 @@ fn behind_name<'a>(name: &'a [u8], text: &'a [u8]) -> Result<Found<'a>, usize>
 /// In a block its end, or a key with its value.
 #[tactic(auto, unfolding(crate::specs::Parts::inside_at))]
 fn inside(text: &[u8]) -> Result<Found<'_>, usize>
-    ensures part { GivesExactly found_bytes (λ left. left) result (inside_at text.now) }
+    ensures part { GivesTokensExactly found_bytes (λ left. left) result (inside_at text.now) }
     ensures shorter { IfOk result (λ f. length f.rest.now < length text.now) }
 {
     let t = some_token(text)?;
@@ -191,7 +191,7 @@ fn inside(text: &[u8]) -> Result<Found<'_>, usize>
 /// The next part of a text for one who stands there, None where the text ends; or how many bytes there are from the first
 /// fault on, 0 where an item isn't whole.
 pub fn next_part<'a>(stage: Stage<'a>, text: &'a [u8]) -> Result<Option<Found<'a>>, usize>
-    ensures part { GivesExactly (option_map found_bytes) (λ left. left) result (part_at (stage_bytes stage.entry) text.now) }
+    ensures part { GivesTokensExactly (option_map found_bytes) (λ left. left) result (part_at (stage_bytes stage.entry) text.now) }
     ensures shorter { IfOk result (λ found. IfSome found (λ f. length f.rest.now < length text.now)) }
 {
     match stage {

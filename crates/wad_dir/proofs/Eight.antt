@@ -9,7 +9,7 @@ use Rattle.sight_names.specs.declared.limits.TheConstants.{MOST_LUMPS}
 use Rattle.sight_names.specs.declared.faults.WadFault.{WadFault}
 use Rattle.wad_dir.specs.declared.parts.MapSpot.{MapSpot}
 use Rattle.wad_dir.specs.Print.{with_bytes, with_reject}
-use Rattle.wad_dir.specs.Wad.{Slot, WadFile, WadLump, count_of, is_directory_outside, kind_of, kind_said, lump_of, slot_at, slots_at, slots_of, unless, wad_fault, wad_of}
+use Rattle.wad_dir.specs.Wad.{Slot, WadFile, WadLump, lump_count_of, is_directory_outside, wad_kind_of, kind_said, lump_of, slot_at, slots_at, slots_of, unless, wad_fault, wad_of}
 
 -- each name has eight bytes
 abbrev pub HasNames : List WadLump → Type 0
@@ -44,7 +44,7 @@ fifth false false false false false f g h i j o q = refl
 
 inside : (bytes : List ℕ) → wad_fault bytes ≡ None → is_directory_outside bytes ≡ false
 unfolding wad_fault
-inside bytes h = fifth (nat_lt (length bytes) 12) (is_none (kind_of bytes)) (nat_le (2 ^ 31) (count_of bytes)) (nat_lt MOST_LUMPS (count_of bytes)) (is_directory_outside bytes) _ _ _ _ _ _ h
+inside bytes h = fifth (nat_lt (length bytes) 12) (is_none (wad_kind_of bytes)) (nat_le (2 ^ 31) (lump_count_of bytes)) (nat_lt MOST_LUMPS (lump_count_of bytes)) (is_directory_outside bytes) _ _ _ _ _ _ h
 
 within : (bytes : List ℕ) → is_directory_outside bytes ≡ false → HasSlots (slots_of bytes)
 within bytes h = grind (arith, not_from_Decides, slots_named)

@@ -5,7 +5,7 @@ use Rattle.std.specs.List.{insert, list_any, position_from}
 use Rattle.std.proofs.lemmas.List.{append-nil}
 use Rattle.std.proofs.lemmas.List.Folds.{list_any-append}
 use Rattle.std.proofs.lemmas.Slice.Eq.{bytes_eq-Decides}
-use Rattle.wad_dir.specs.Map.{belongs, ends_text, has_name, is_run_name, key_of, last_from, run_from, same_name, stands_once}
+use Rattle.wad_dir.specs.Map.{belongs, ends_text_map, has_name, is_run_name, key_of, last_from, run_from, same_name, stands_once}
 use Rattle.math_base.proofs.Bools.{first_false, first_true, second_false}
 
 -- ---- an element put into a list
@@ -118,8 +118,8 @@ pub more_named : (before ns : List (List ℕ)) (j : ℕ) (d : List ℕ) → j < 
 more_named before ns j d lt = more_each false (λ (n : List ℕ). is_run_name n ≡ true) (λ n seen e. first_true (is_run_name n) (not (has_name n seen)) e) before ns j d lt
 
 -- .. and in a map of UDMF none that ends it
-pub more_goes_on : (before ns : List (List ℕ)) (j : ℕ) (d : List ℕ) → j < length (more true before ns) → not (ends_text (get_or ns j d)) ≡ true
-more_goes_on before ns j d lt = more_each true (λ (n : List ℕ). not (ends_text n) ≡ true) (λ n seen e. first_true (not (ends_text n)) (not (stands_once n && has_name n seen)) e) before ns j d lt
+pub more_goes_on : (before ns : List (List ℕ)) (j : ℕ) (d : List ℕ) → j < length (more true before ns) → not (ends_text_map (get_or ns j d)) ≡ true
+more_goes_on before ns j d lt = more_each true (λ (n : List ℕ). not (ends_text_map n) ≡ true) (λ n seen e. first_true (not (ends_text_map n)) (not (stands_once n && has_name n seen)) e) before ns j d lt
 
 -- a name that is put in behind what ends a run leaves the run as it is
 pub more_stays : (text : Bool) (p : ℕ) (before ns : List (List ℕ)) (x : List ℕ) → length (more text before ns) < p → p ≤ length ns → more text before (insert ns p x) ≡ more text before ns
@@ -167,14 +167,14 @@ belongs_by : (text r e o b s : Bool) → Bool
 belongs_by true r e o b s = not e && not (o && (b || s))
 belongs_by false r e o b s = r && not (b || s)
 
-also_belongs : (text : Bool) (before after : List (List ℕ)) (n : List ℕ) → HasAlso before after → belongs text n after ≡ belongs_by text (is_run_name n) (ends_text n) (stands_once n) (has_name n before) (same_name padded n)
+also_belongs : (text : Bool) (before after : List (List ℕ)) (n : List ℕ) → HasAlso before after → belongs text n after ≡ belongs_by text (is_run_name n) (ends_text_map n) (stands_once n) (has_name n before) (same_name padded n)
 unfolding belongs_by
-also_belongs true before after n also = ap (λ (b : Bool). not (ends_text n) && not (stands_once n && b)) (also n)
+also_belongs true before after n also = ap (λ (b : Bool). not (ends_text_map n) && not (stands_once n && b)) (also n)
 also_belongs false before after n also = ap (λ (b : Bool). is_run_name n && not b) (also n)
 
-as_before : (text : Bool) (before : List (List ℕ)) (n : List ℕ) → belongs text n before ≡ belongs_by text (is_run_name n) (ends_text n) (stands_once n) (has_name n before) false
+as_before : (text : Bool) (before : List (List ℕ)) (n : List ℕ) → belongs text n before ≡ belongs_by text (is_run_name n) (ends_text_map n) (stands_once n) (has_name n before) false
 unfolding belongs_by
-as_before true before n = ap (λ (b : Bool). not (ends_text n) && not (stands_once n && b)) (sym (or_false (has_name n before)))
+as_before true before n = ap (λ (b : Bool). not (ends_text_map n) && not (stands_once n && b)) (sym (or_false (has_name n before)))
 as_before false before n = ap (λ (b : Bool). is_run_name n && not b) (sym (or_false (has_name n before)))
 
 -- a name that doesn't belong doesn't belong behind more names
@@ -202,7 +202,7 @@ more_same text before after (n ∷ ns) also none = by (belongs text n before) (s
         by_name false p q = absurd cc
 
     tests : Bool → Bool
-    tests s = belongs_by text (is_run_name n) (ends_text n) (stands_once n) (has_name n before) s
+    tests s = belongs_by text (is_run_name n) (ends_text_map n) (stands_once n) (has_name n before) s
 
     by : (c s a : Bool) → same_name padded n ≡ s → c ≡ tests false → a ≡ tests s → has_name word (if c then n ∷ more text (before ++ n ∷ []) ns else []) ≡ false
         → (has_name word (more text (before ++ n ∷ []) ns) ≡ false → more text (after ++ n ∷ []) ns ≡ more text (before ++ n ∷ []) ns)
@@ -210,7 +210,7 @@ more_same text before after (n ∷ ns) also none = by (belongs text n before) (s
     by true true a is e f q rest = absurd (named is q)
     by true false true is e f q rest = ap (λ (ms : List (List ℕ)). n ∷ ms) (rest (second_false (same_name n word) (has_name word (more text (before ++ n ∷ []) ns)) q))
     by true false false is e f q rest = absurd (let both : true ≡ false = e ∙ sym f in cc)
-    by false s true is e f q rest = absurd (let both : true ≡ false = f ∙ no_more text (is_run_name n) (ends_text n) (stands_once n) (has_name n before) s (sym e) in cc)
+    by false s true is e f q rest = absurd (let both : true ≡ false = f ∙ no_more text (is_run_name n) (ends_text_map n) (stands_once n) (has_name n before) s (sym e) in cc)
     by false s false is e f q rest = refl
 
 -- a REJECT that is put into what is added, where there is none yet, is added

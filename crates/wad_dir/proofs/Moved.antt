@@ -7,7 +7,7 @@ use Rattle.wad_dir.specs.declared.parts.MapSpot.{MapSpot}
 use Rattle.sight_names.specs.declared.faults.Lump.{Lump}
 use Rattle.sight_names.specs.declared.faults.Lump.TheVariants.{Linedefs, Sidedefs, Vertexes, Sectors}
 use Rattle.sight_names.specs.declared.names.MapFormat.{MapFormat}
-use Rattle.wad_dir.specs.Map.{begins_with, begins_with_textmap, format_behind, format_told, key_of, last_from, name_of, same_name, shifted, spot_of}
+use Rattle.wad_dir.specs.Map.{begins_with_name, begins_with_textmap, format_behind, format_told, key_of, last_from, lump_name, same_name, shifted, spot_of}
 use Rattle.wad_dir.proofs.Inserted.{drop_behind, drop_insert, last_kept, last_within, more, more_stays}
 use Rattle.wad_dir.proofs.Spots.{IsSpot, end_at, is_cut, lump_place, of_by, place, run_at, spot_at, spot_from, spot_of_by, spot_parts}
 use Rattle.std.proofs.lemmas.List.{length-drop}
@@ -127,7 +127,7 @@ next_stays [] n (suc p) x lt le = absurd (omega (arith, le))
 next_stays (y ∷ xs) zero (suc p) x lt le = refl
 next_stays (y ∷ xs) (suc n) (suc p) x lt le = next_stays xs n p x (omega (arith, lt)) (omega (arith, le))
 
-pub head_stays : (name : List ℕ) (xs : List (List ℕ)) (n p : ℕ) (x : List ℕ) → n < p → p ≤ length xs → begins_with name (drop n (insert xs p x)) ≡ begins_with name (drop n xs)
+pub head_stays : (name : List ℕ) (xs : List (List ℕ)) (n p : ℕ) (x : List ℕ) → n < p → p ≤ length xs → begins_with_name name (drop n (insert xs p x)) ≡ begins_with_name name (drop n xs)
 head_stays name xs n zero x lt le = absurd (omega (arith, lt))
 head_stays name [] n (suc p) x lt le = absurd (omega (arith, le))
 head_stays name (y ∷ xs) zero (suc p) x lt le = refl
@@ -142,10 +142,10 @@ module _ (after : List (List ℕ)) (q : ℕ) (x : List ℕ) (lt : length (run_at
   run_stays = ap (λ (t : Bool). more t [] (insert after q x)) text_stays ∙ more_stays (begins_with_textmap after) q [] after x lt within
 
   place_stays : (lump : Lump) → lump_place lump (insert after q x) ≡ lump_place lump after
-  place_stays lump = λ i. place (name_of (text_stays i) lump) (run_stays i)
+  place_stays lump = λ i. place (lump_name (text_stays i) lump) (run_stays i)
 
-  end_stays : begins_with (codes "ENDMAP") (end_at (insert after q x)) ≡ begins_with (codes "ENDMAP") (end_at after)
-  end_stays = ap (λ (ys : List (List ℕ)). begins_with (codes "ENDMAP") (drop (length ys) (insert after q x))) run_stays ∙ head_stays (codes "ENDMAP") after (length (run_at after)) q x lt within
+  end_stays : begins_with_name (codes "ENDMAP") (end_at (insert after q x)) ≡ begins_with_name (codes "ENDMAP") (end_at after)
+  end_stays = ap (λ (ys : List (List ℕ)). begins_with_name (codes "ENDMAP") (drop (length ys) (insert after q x))) run_stays ∙ head_stays (codes "ENDMAP") after (length (run_at after)) q x lt within
 
   cut_stays : is_cut (insert after q x) ≡ is_cut after
   cut_stays = λ i. text_stays i && not (end_stays i)

@@ -5,7 +5,7 @@ use Rattle.std.proofs.lemmas.List.{drop-map, length-map, length-take}
 use Rattle.sight_names.specs.declared.faults.MapFault.{MapFault}
 use Rattle.sight_names.specs.declared.faults.MapFault.TheVariants as fault
 use Rattle.sight_names.specs.declared.names.MapFormat.{MapFormat}
-use Rattle.wad_dir.specs.Map.{begins_with, begins_with_textmap, entry_names, spot_behind, spot_in, spot_of, run_from, format_behind, last_from}
+use Rattle.wad_dir.specs.Map.{begins_with_name, begins_with_textmap, entry_names, spot_behind, spot_in, spot_of, run_from, format_behind, last_from}
 use Rattle.wad_dir.specs.declared.parts.Entry.{Entry}
 use Rattle.wad_dir.specs.declared.parts.MapSpot.{MapSpot}
 
@@ -32,7 +32,7 @@ module _ (text : Bool) (marker r : ℕ) (es run rest : List Entry) (is_text : te
   run_names_are = ap (λ (x : List Entry). entry_names x) is_run ∙ names
 
   abbrev spot_by_run : Bool → List (List ℕ) → List (List ℕ) → Result MapSpot MapFault
-  spot_by_run t behind ns = if t && not (begins_with (codes "ENDMAP") behind) then Err fault.NoEnd else spot_in marker t (format_behind behind) ns
+  spot_by_run t behind ns = if t && not (begins_with_name (codes "ENDMAP") behind) then Err fault.NoEnd else spot_in marker t (format_behind behind) ns
 
   behind_is : spot_by_run text (entry_names rest) (entry_names run) ≡ spot_behind marker (entry_names es)
   unfolding spot_behind
@@ -41,7 +41,7 @@ module _ (text : Bool) (marker r : ℕ) (es run rest : List Entry) (is_text : te
       ∙ ap (λ (t : Bool). spot_by_run t (drop (length (front t)) (entry_names es)) (front t)) is_text
 
   abbrev lacks_end : Bool
-  lacks_end = text && not (begins_with (codes "ENDMAP") (entry_names rest))
+  lacks_end = text && not (begins_with_name (codes "ENDMAP") (entry_names rest))
 
   abbrev spot_if : Bool → MapFormat → Result MapSpot MapFault
   spot_if cut format = if cut then Err fault.NoEnd else spot_in marker text format (entry_names run)

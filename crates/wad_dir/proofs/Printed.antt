@@ -11,7 +11,7 @@ use Rattle.std.proofs.lemmas.Nat.{from_le_bytes-to_le_bytes_4}
 use Rattle.sight_names.specs.declared.faults.WadFault.{WadFault}
 use Rattle.wad_dir.specs.declared.parts.Kind.{Kind}
 use Rattle.wad_dir.specs.declared.parts.Kind.TheVariants.{Iwad, Pwad}
-use Rattle.wad_dir.specs.Wad.{WadFile, WadLump, Slot, magic, word_at, kind_of, kind_said, count_of, directory_place, slot_at, slots_at, slots_of, is_outside, wad_fault, wad_of, lump_of, unless}
+use Rattle.wad_dir.specs.Wad.{WadFile, WadLump, Slot, wad_magic, word_at, wad_kind_of, kind_said, lump_count_of, directory_place, slot_at, slots_at, slots_of, is_outside, wad_fault, wad_of, lump_of, unless}
 use Rattle.wad_dir.specs.Print.{body, body_len, directory_from, header, print, IsPrintable, PrintsItsLength, ReadsWhatIsPrinted}
 
 -- ---- four bytes of a number
@@ -166,11 +166,11 @@ length-directory [] at names = refl
 length-directory (l ∷ ls) at names =
     omega (arith, ap (λ (bs : List ℕ). length bs) (directory-front at l ls), length-append (entry at l) (directory_from (at + length l.bytes) ls), length-entry at l names.0, length-directory ls (at + length l.bytes) names.1)
 
-length-magic : (k : Kind) → length (magic k) ≡ 4
+length-magic : (k : Kind) → length (wad_magic k) ≡ 4
 length-magic Iwad = refl
 length-magic Pwad = refl
 
-header_parts : (w : WadFile) → header w ≡ (magic w.kind ++ word (length w.lumps)) ++ word (12 + body_len w.lumps)
+header_parts : (w : WadFile) → header w ≡ (wad_magic w.kind ++ word (length w.lumps)) ++ word (12 + body_len w.lumps)
 unfolding word
 header_parts w = refl
 
@@ -182,13 +182,13 @@ unfolding print
 prints_its_length w names =
     omega (arith, length-append (header w ++ body w.lumps) (directory_from 12 w.lumps), length-append (header w) (body w.lumps), length-header w, length-body w.lumps, length-directory w.lumps 12 names)
 
-kind_is : (bytes : List ℕ) (k : Kind) → take 4 bytes ≡ magic k → kind_of bytes ≡ Some k
+kind_is : (bytes : List ℕ) (k : Kind) → take 4 bytes ≡ wad_magic k → wad_kind_of bytes ≡ Some k
 kind_is bytes k e = grind arith
 
-says_kind : (bytes : List ℕ) (k : Kind) → take 4 bytes ≡ magic k → kind_said bytes ≡ k
+says_kind : (bytes : List ℕ) (k : Kind) → take 4 bytes ≡ wad_magic k → kind_said bytes ≡ k
 says_kind bytes k e = rw e (same k)
   where
-    same : (x : Kind) → (if bytes_eq (magic x) (magic Iwad) then Iwad else Pwad) ≡ x
+    same : (x : Kind) → (if bytes_eq (wad_magic x) (wad_magic Iwad) then Iwad else Pwad) ≡ x
     same Iwad = refl
     same Pwad = refl
 
@@ -198,8 +198,8 @@ directory_inside len place count short fits = grind (arith, le-ltb, lt-leb)
 -- what is said of a print, in its parts
 record Said (w : WadFile) (bytes : List ℕ) : Type 0 where
   length_is : length bytes ≡ 12 + body_len w.lumps + 16 * length w.lumps
-  first : take 4 bytes ≡ magic w.kind
-  count : count_of bytes ≡ length w.lumps
+  first : take 4 bytes ≡ wad_magic w.kind
+  count : lump_count_of bytes ≡ length w.lumps
   place : directory_place bytes ≡ 12 + body_len w.lumps
   slots : slots_of bytes ≡ slots_for 12 w.lumps
   lumps : map (lump_of bytes) (slots_for 12 w.lumps) ≡ w.lumps
@@ -212,21 +212,21 @@ said w ok =
     let placed : List ℕ = word (12 + body_len w.lumps) in
     let rest : List ℕ = body w.lumps ++ directory_from 12 w.lumps in
     let bodied : whole ≡ header w ++ rest = append_assoc (header w) (body w.lumps) (directory_from 12 w.lumps) in
-    let apart : whole ≡ magic w.kind ++ (counted ++ (placed ++ rest)) =
-    bodied ∙ ap (λ (bs : List ℕ). bs ++ rest) (header_parts w) ∙ append_assoc (magic w.kind ++ counted) placed rest ∙ append_assoc (magic w.kind) counted (placed ++ rest) in
-    let count_is : count_of whole ≡ length w.lumps =
-    ap (λ (bs : List ℕ). from_le_bytes w32 (take 4 (drop 4 bs))) apart ∙ ap (λ (bs : List ℕ). from_le_bytes w32 (take 4 bs)) (drop_at (magic w.kind) (counted ++ (placed ++ rest)) 4 (length-magic w.kind)) ∙ reads_word (length w.lumps) (placed ++ rest) (omega (arith, ok.few)) in
+    let apart : whole ≡ wad_magic w.kind ++ (counted ++ (placed ++ rest)) =
+    bodied ∙ ap (λ (bs : List ℕ). bs ++ rest) (header_parts w) ∙ append_assoc (wad_magic w.kind ++ counted) placed rest ∙ append_assoc (wad_magic w.kind) counted (placed ++ rest) in
+    let count_is : lump_count_of whole ≡ length w.lumps =
+    ap (λ (bs : List ℕ). from_le_bytes w32 (take 4 (drop 4 bs))) apart ∙ ap (λ (bs : List ℕ). from_le_bytes w32 (take 4 bs)) (drop_at (wad_magic w.kind) (counted ++ (placed ++ rest)) 4 (length-magic w.kind)) ∙ reads_word (length w.lumps) (placed ++ rest) (omega (arith, ok.few)) in
     let place_is : directory_place whole ≡ 12 + body_len w.lumps =
-    ap (λ (bs : List ℕ). from_le_bytes w32 (take 4 (drop 8 bs))) apart ∙ ap (λ (bs : List ℕ). from_le_bytes w32 (take 4 bs)) (behind (magic w.kind) counted (placed ++ rest) 8 (omega (arith, length-magic w.kind, length-word (length w.lumps)))) ∙ reads_word (12 + body_len w.lumps) rest (omega (arith, ok.short)) in
+    ap (λ (bs : List ℕ). from_le_bytes w32 (take 4 (drop 8 bs))) apart ∙ ap (λ (bs : List ℕ). from_le_bytes w32 (take 4 bs)) (behind (wad_magic w.kind) counted (placed ++ rest) 8 (omega (arith, length-magic w.kind, length-word (length w.lumps)))) ∙ reads_word (12 + body_len w.lumps) rest (omega (arith, ok.short)) in
     let front : length (header w ++ body w.lumps) ≡ 12 + body_len w.lumps = omega (arith, length-append (header w) (body w.lumps), length-header w, length-body w.lumps) in
     let slots_are : slots_at whole (12 + body_len w.lumps) (length w.lumps) ≡ slots_for 12 w.lumps =
     ap (λ (bs : List ℕ). slots_at ((header w ++ body w.lumps) ++ bs) (12 + body_len w.lumps) (length w.lumps)) (sym (append-nil (directory_from 12 w.lumps))) ∙ slots_read w.lumps (header w ++ body w.lumps) [] (12 + body_len w.lumps) 12 front ok.names (omega (arith, ok.short)) in
     record {
       length_is = omega (arith, length-append (header w ++ body w.lumps) (directory_from 12 w.lumps), front, length-directory w.lumps 12 ok.names);
-      first = ap (λ (bs : List ℕ). take 4 bs) apart ∙ take_at (magic w.kind) (counted ++ (placed ++ rest)) 4 (length-magic w.kind);
+      first = ap (λ (bs : List ℕ). take 4 bs) apart ∙ take_at (wad_magic w.kind) (counted ++ (placed ++ rest)) 4 (length-magic w.kind);
       count = count_is;
       place = place_is;
-      slots = ap (λ (k : ℕ). slots_at whole k (count_of whole)) place_is ∙ ap (λ (k : ℕ). slots_at whole (12 + body_len w.lumps) k) count_is ∙ slots_are;
+      slots = ap (λ (k : ℕ). slots_at whole k (lump_count_of whole)) place_is ∙ ap (λ (k : ℕ). slots_at whole (12 + body_len w.lumps) k) count_is ∙ slots_are;
       lumps = ap (λ (bs : List ℕ). map (lump_of bs) (slots_for 12 w.lumps)) bodied ∙ lumps_read w.lumps (header w) (directory_from 12 w.lumps) 12 (length-header w);
     }
 

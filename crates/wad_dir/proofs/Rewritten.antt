@@ -10,10 +10,10 @@ use Rattle.std.proofs.lemmas.List.Edits.{length-insert}
 use Rattle.sight_names.specs.declared.faults.Lump.{Lump}
 use Rattle.sight_names.specs.declared.faults.Lump.TheVariants.{Linedefs, Sidedefs, Vertexes, Sectors}
 use Rattle.wad_dir.specs.declared.parts.MapSpot.{MapSpot}
-use Rattle.wad_dir.specs.Map.{begins_with, begins_with_textmap, format_behind, format_told, last_from, name_of, same_name, shifted, spot_of}
+use Rattle.wad_dir.specs.Map.{begins_with_name, begins_with_textmap, format_behind, format_told, last_from, lump_name, same_name, shifted, spot_of}
 use Rattle.wad_dir.specs.Print.{reject_lump, with_bytes, with_reject}
-use Rattle.wad_dir.specs.Wad.{WadFile, WadLump, names_of}
-use Rattle.wad_dir.specs.Kept.{IsKept, spot_then}
+use Rattle.wad_dir.specs.Wad.{WadFile, WadLump, names_of_lumps}
+use Rattle.wad_dir.specs.Kept.{IsMapKept, spot_then}
 use Rattle.wad_dir.proofs.Inserted.{apart, drop_behind, drop_insert, last_kept, last_within, more, more_insert, more_short, none_there, padded, place_before, place_behind, place_bound, place_new, word}
 use Rattle.wad_dir.proofs.Spots.{IsSpot, end_at, is_cut, lump_place, place, run_at, spot_at, spot_from, spot_parts}
 use Rattle.wad_dir.proofs.Moved.{head_stays}
@@ -71,14 +71,14 @@ place_moved test xs c k x h other = by (nat_lt c k) refl
     by false e = place_before test xs (c + 1) 0 k x h (let not : ¬ (c < k) = not_from_Decides (nat_lt c k) (Decides-ltb c k) e in omega (arith, not))
 
 -- the name of a REJECT is none of the four
-no_reject : (text : Bool) (lump : Lump) → same_name padded (name_of text lump) ≡ false
+no_reject : (text : Bool) (lump : Lump) → same_name padded (lump_name text lump) ≡ false
 no_reject true lump = refl
 no_reject false Linedefs = refl
 no_reject false Sidedefs = refl
 no_reject false Vertexes = refl
 no_reject false Sectors = refl
 
-none_of_reject : (text : Bool) (lump : Lump) → same_name (name_of text lump) word ≡ false
+none_of_reject : (text : Bool) (lump : Lump) → same_name (lump_name text lump) word ≡ false
 none_of_reject true lump = refl
 none_of_reject false Linedefs = refl
 none_of_reject false Sidedefs = refl
@@ -104,7 +104,7 @@ module _ (ns : List (List ℕ)) (name : List ℕ) (spot : MapSpot) (p : IsSpot n
   after_length = let h = length-drop (p.marker + 1) ns in let w = marker_within in omega (arith, h, w)
 
   sectors_in_run : p.c < length run
-  sectors_in_run = let h = place_bound (λ n. same_name n (name_of text Sectors)) run 0 p.c p.sectors in omega (arith, h.1)
+  sectors_in_run = let h = place_bound (λ n. same_name n (lump_name text Sectors)) run 0 p.c p.sectors in omega (arith, h.1)
 
   pub sectors_within : spot.sectors < length ns
   sectors_within =
@@ -145,8 +145,8 @@ module _ (ns : List (List ℕ)) (name : List ℕ) (spot : MapSpot) (p : IsSpot n
     -- a place in the new run
     at_put : (lump : Lump) (k : ℕ) → lump_place lump after ≡ Some k → lump_place lump (drop (p.marker + 1) put) ≡ Some (moved p.c k)
     at_put lump k h =
-        ap (λ (ys : List (List ℕ)). lump_place lump ys) after_put ∙ (λ i. place (name_of (text_put i) lump) (run_put i))
-        ∙ place_moved (λ n. same_name n (name_of text lump)) run p.c k padded h (no_reject text lump)
+        ap (λ (ys : List (List ℕ)). lump_place lump ys) after_put ∙ (λ i. place (lump_name (text_put i) lump) (run_put i))
+        ∙ place_moved (λ n. same_name n (lump_name text lump)) run p.c k padded h (no_reject text lump)
 
     parts_put : IsSpot put name (spot_at p.marker p.text p.format (moved p.c p.l) (moved p.c p.s) (moved p.c p.v) (moved p.c p.c) (Some (p.c + 1)))
     parts_put =
@@ -156,7 +156,7 @@ module _ (ns : List (List ℕ)) (name : List ℕ) (spot : MapSpot) (p : IsSpot n
           is_last = last_put;
           text = p.text;
           is_text = ap (λ (ys : List (List ℕ)). begins_with_textmap ys) after_put ∙ text_put ∙ p.is_text;
-          whole = ap (λ (ys : List (List ℕ)). is_cut ys) after_put ∙ (λ i. text_put i && not (begins_with (codes "ENDMAP") (end_put i))) ∙ p.whole;
+          whole = ap (λ (ys : List (List ℕ)). is_cut ys) after_put ∙ (λ i. text_put i && not (begins_with_name (codes "ENDMAP") (end_put i))) ∙ p.whole;
           format = p.format;
           behind_run = ap (λ (ys : List (List ℕ)). format_behind (end_at ys)) after_put ∙ ap (λ (ys : List (List ℕ)). format_behind ys) end_put ∙ p.behind_run;
           l = moved p.c p.l;
@@ -209,20 +209,20 @@ some_of by (Some k) at e = record { k = k; is = refl; at = cc }
 get_moved : {X : Type 0} (xs : List X) (s k : ℕ) (x : X) → s < length xs → slice_get (insert xs (s + 1) x) (moved s k) ≡ slice_get xs k
 get_moved {X} xs s k x lt = grind (arith, get_before, get_behind, not_from_Decides)
 
-names_put : (w : WadFile) (spot : MapSpot) (table : List ℕ) → names_of (rewritten w spot None table) ≡ insert (names_of w) (spot.sectors + 1) padded
+names_put : (w : WadFile) (spot : MapSpot) (table : List ℕ) → names_of_lumps (rewritten w spot None table) ≡ insert (names_of_lumps w) (spot.sectors + 1) padded
 names_put w spot table = map_insert (λ (l : WadLump). l.name) w.lumps (spot.sectors + 1) (reject_lump table)
 
-names_stay : (w : WadFile) (spot : MapSpot) (r : ℕ) (table : List ℕ) → names_of (rewritten w spot (Some r) table) ≡ names_of w
+names_stay : (w : WadFile) (spot : MapSpot) (r : ℕ) (table : List ℕ) → names_of_lumps (rewritten w spot (Some r) table) ≡ names_of_lumps w
 names_stay w spot r table = map-set_same (λ (l : WadLump). l.name) w.lumps r (with_bytes (get_or w.lumps r (reject_lump table)) table) (reject_lump table) refl
 
-kept_none : (w : WadFile) (name : List ℕ) (spot : MapSpot) (table : List ℕ) → spot_of (names_of w) name ≡ Ok (with_place spot None) → same_name word name ≡ false → IsKept name (with_place spot None) table w (rewritten w spot None table)
+kept_none : (w : WadFile) (name : List ℕ) (spot : MapSpot) (table : List ℕ) → spot_of (names_of_lumps w) name ≡ Ok (with_place spot None) → same_name word name ≡ false → IsMapKept name (with_place spot None) table w (rewritten w spot None table)
 kept_none w name spot table found other =
-    let p = spot_parts (names_of w) name (with_place spot None) found in
+    let p = spot_parts (names_of_lumps w) name (with_place spot None) found in
     let none : p.r ≡ None = none_of (p.marker + 1) p.r (ap (λ (x : MapSpot). x.reject) p.is) in
-    let within : spot.sectors < length w.lumps = (let a = sectors_within (names_of w) name (with_place spot None) p in let b = length-map w.lumps (λ (l : WadLump). l.name) in omega (arith, a, b)) in
+    let within : spot.sectors < length w.lumps = (let a = sectors_within (names_of_lumps w) name (with_place spot None) p in let b = length-map w.lumps (λ (l : WadLump). l.name) in omega (arith, a, b)) in
     let moves : (k : ℕ) → slice_get (insert w.lumps (spot.sectors + 1) (reject_lump table)) (moved spot.sectors k) ≡ slice_get w.lumps k = (λ k. get_moved w.lumps spot.sectors k (reject_lump table) within) in
     record {
-      found = ap (λ (ns : List (List ℕ)). spot_of ns name) (names_put w spot table) ∙ spot_put (names_of w) name (with_place spot None) p other none;
+      found = ap (λ (ns : List (List ℕ)). spot_of ns name) (names_put w spot table) ∙ spot_put (names_of_lumps w) name (with_place spot None) p other none;
       linedefs = moves spot.linedefs;
       sidedefs = moves spot.sidedefs;
       vertexes = moves spot.vertexes;
@@ -232,10 +232,10 @@ kept_none w name spot table found other =
       count = length-insert w.lumps (spot.sectors + 1) (reject_lump table) (omega (arith, within));
     }
 
-kept_some : (w : WadFile) (name : List ℕ) (spot : MapSpot) (r : ℕ) (table : List ℕ) → spot_of (names_of w) name ≡ Ok (with_place spot (Some r)) → IsKept name (with_place spot (Some r)) table w (rewritten w spot (Some r) table)
+kept_some : (w : WadFile) (name : List ℕ) (spot : MapSpot) (r : ℕ) (table : List ℕ) → spot_of (names_of_lumps w) name ≡ Ok (with_place spot (Some r)) → IsMapKept name (with_place spot (Some r)) table w (rewritten w spot (Some r) table)
 kept_some w name spot r table found =
-    let p = spot_parts (names_of w) name (with_place spot (Some r)) found in
-    let after : List (List ℕ) = drop (p.marker + 1) (names_of w) in
+    let p = spot_parts (names_of_lumps w) name (with_place spot (Some r)) found in
+    let after : List (List ℕ) = drop (p.marker + 1) (names_of_lumps w) in
     let text : Bool = begins_with_textmap after in
     let run : List (List ℕ) = run_at after in
     let at = some_of (p.marker + 1) p.r r (ap (λ (x : MapSpot). x.reject) p.is) in
@@ -243,14 +243,14 @@ kept_some w name spot r table found =
     let within : r < length w.lumps = (
     let a = place_bound (λ n. same_name n word) run 0 at.k there in
     let b = more_short text [] after in
-    let d = after_length (names_of w) name (with_place spot (Some r)) p in
+    let d = after_length (names_of_lumps w) name (with_place spot (Some r)) p in
     let e = length-map w.lumps (λ (l : WadLump). l.name) in
     let f = at.at in
     omega (arith, a.1, b, d, e, f)) in
     let lump : WadLump = with_bytes (get_or w.lumps r (reject_lump table)) table in
     let stays : (k : ℕ) → k ≢ r → slice_get (set w.lumps r lump) k ≡ slice_get w.lumps k = (λ k not. get_other w.lumps r k lump not) in
     let clash : (lump : Lump) (k j : ℕ) → j ≡ p.marker + 1 + k → lump_place lump after ≡ Some k → j ≢ r =
-    (λ lump k j is here same. let e : at.k ≡ k = (let f = at.at in omega (arith, is, same, f)) in apart (name_of text lump) word run 0 k (none_of_reject text lump) here (there ∙ ap (λ (n : ℕ). Some n) e)) in
+    (λ lump k j is here same. let e : at.k ≡ k = (let f = at.at in omega (arith, is, same, f)) in apart (lump_name text lump) word run 0 k (none_of_reject text lump) here (there ∙ ap (λ (n : ℕ). Some n) e)) in
     record {
       found = ap (λ (ns : List (List ℕ)). spot_of ns name) (names_stay w spot r table) ∙ found;
       linedefs = stays spot.linedefs (clash Linedefs p.l spot.linedefs (ap (λ (x : MapSpot). x.linedefs) p.is) p.linedefs);
@@ -263,9 +263,9 @@ kept_some w name spot r table found =
     }
 
 -- a map that isn't called REJECT is found again, and all is kept
-pub kept : (w : WadFile) (name : List ℕ) (spot : MapSpot) (table : List ℕ) → spot_of (names_of w) name ≡ Ok spot → same_name word name ≡ false → IsKept name spot table w (with_reject w spot table)
+pub kept : (w : WadFile) (name : List ℕ) (spot : MapSpot) (table : List ℕ) → spot_of (names_of_lumps w) name ≡ Ok spot → same_name word name ≡ false → IsMapKept name spot table w (with_reject w spot table)
 kept w name spot table found other = by spot.reject found
   where
-    by : (o : Option ℕ) → spot_of (names_of w) name ≡ Ok (with_place spot o) → IsKept name (with_place spot o) table w (rewritten w spot o table)
+    by : (o : Option ℕ) → spot_of (names_of_lumps w) name ≡ Ok (with_place spot o) → IsMapKept name (with_place spot o) table w (rewritten w spot o table)
     by None h = kept_none w name spot table h other
     by (Some r) h = kept_some w name spot r table h

@@ -9,14 +9,14 @@ use Rattle.sight_names.specs.declared.faults.MapFault.{MapFault}
 use Rattle.sight_names.specs.declared.faults.MapFault.TheVariants as fault
 use Rattle.sight_names.specs.declared.names.MapFormat.{MapFormat}
 use Rattle.wad_dir.specs.declared.parts.MapSpot.{MapSpot}
-use Rattle.wad_dir.specs.Map.{◌>>=◌, begins_with, begins_with_textmap, format_behind, format_told, last_from, name_of, place_in, same_name, shifted, spot_behind, spot_in, spot_of}
+use Rattle.wad_dir.specs.Map.{◌>>=◌, begins_with_name, begins_with_textmap, format_behind, format_told, last_from, lump_name, place_in_run, same_name, shifted, spot_behind, spot_in, spot_of}
 use Rattle.wad_dir.proofs.Inserted.{more, run_is}
 
 -- the first of the names that is this one
 abbrev pub place : List ℕ → List (List ℕ) → Option ℕ
 place name run = position_from (λ n. same_name n name) 0 run
 
-pub place_is : (name : List ℕ) (run : List (List ℕ)) → place_in name run ≡ place name run
+pub place_is : (name : List ℕ) (run : List (List ℕ)) → place_in_run name run ≡ place name run
 place_is name run = position_from-zero (λ n. same_name n name) run
 
 -- the spot with these places in the run
@@ -35,12 +35,12 @@ spot_by marker text format a b c d r = do
   sectors ← needed_at d Sectors
   Ok (spot_at marker text format linedefs sidedefs vertexes sectors r)
 
-in_by : (marker : ℕ) (text : Bool) (format : MapFormat) (run : List (List ℕ)) → spot_in marker text format run ≡ spot_by marker text format (place_in (name_of text Linedefs) run) (place_in (name_of text Sidedefs) run) (place_in (name_of text Vertexes) run) (place_in (name_of text Sectors) run) (place_in (codes "REJECT") run)
+in_by : (marker : ℕ) (text : Bool) (format : MapFormat) (run : List (List ℕ)) → spot_in marker text format run ≡ spot_by marker text format (place_in_run (lump_name text Linedefs) run) (place_in_run (lump_name text Sidedefs) run) (place_in_run (lump_name text Vertexes) run) (place_in_run (lump_name text Sectors) run) (place_in_run (codes "REJECT") run)
 unfolding spot_in spot_by needed_at
 in_by marker text format run = refl
 
-in_places : (marker : ℕ) (text : Bool) (format : MapFormat) (run : List (List ℕ)) → spot_in marker text format run ≡ spot_by marker text format (place (name_of text Linedefs) run) (place (name_of text Sidedefs) run) (place (name_of text Vertexes) run) (place (name_of text Sectors) run) (place (codes "REJECT") run)
-in_places marker text format run = in_by marker text format run ∙ (λ i. spot_by marker text format (place_is (name_of text Linedefs) run i) (place_is (name_of text Sidedefs) run i) (place_is (name_of text Vertexes) run i) (place_is (name_of text Sectors) run i) (place_is (codes "REJECT") run i))
+in_places : (marker : ℕ) (text : Bool) (format : MapFormat) (run : List (List ℕ)) → spot_in marker text format run ≡ spot_by marker text format (place (lump_name text Linedefs) run) (place (lump_name text Sidedefs) run) (place (lump_name text Vertexes) run) (place (lump_name text Sectors) run) (place (codes "REJECT") run)
+in_places marker text format run = in_by marker text format run ∙ (λ i. spot_by marker text format (place_is (lump_name text Linedefs) run i) (place_is (lump_name text Sidedefs) run i) (place_is (lump_name text Vertexes) run i) (place_is (lump_name text Sectors) run i) (place_is (codes "REJECT") run i))
 
 -- there are the four places
 record HasPlaces (marker : ℕ) (text : Bool) (format : MapFormat) (a b c d r : Option ℕ) (spot : MapSpot) : Type 0 where
@@ -74,11 +74,11 @@ end_at after = drop (length (run_at after)) after
 
 -- a map of UDMF without its end
 abbrev pub is_cut : List (List ℕ) → Bool
-is_cut after = begins_with_textmap after && not (begins_with (codes "ENDMAP") (end_at after))
+is_cut after = begins_with_textmap after && not (begins_with_name (codes "ENDMAP") (end_at after))
 
 -- the place of one of the four lumps in the run
 abbrev pub lump_place : Lump → List (List ℕ) → Option ℕ
-lump_place lump after = place (name_of (begins_with_textmap after) lump) (run_at after)
+lump_place lump after = place (lump_name (begins_with_textmap after) lump) (run_at after)
 
 pub record IsSpot (ns : List (List ℕ)) (name : List ℕ) (spot : MapSpot) : Type 0 where
   pub marker : ℕ
@@ -112,7 +112,7 @@ whole_spot false r spot h = (refl, h)
 behind_by : (marker : ℕ) (after : List (List ℕ)) → spot_behind marker after ≡ whole_or (is_cut after) (spot_in marker (begins_with_textmap after) (format_behind (end_at after)) (run_at after))
 unfolding spot_behind whole_or
 behind_by marker after =
-    ap (λ (run : List (List ℕ)). if begins_with_textmap after && not (begins_with (codes "ENDMAP") (drop (length run) after)) then Err fault.NoEnd else spot_in marker (begins_with_textmap after) (format_behind (drop (length run) after)) run)
+    ap (λ (run : List (List ℕ)). if begins_with_textmap after && not (begins_with_name (codes "ENDMAP") (drop (length run) after)) then Err fault.NoEnd else spot_in marker (begins_with_textmap after) (format_behind (drop (length run) after)) run)
     (run_is (begins_with_textmap after) [] after)
 
 -- the spot of a map whose marker is the last of its name

@@ -3,7 +3,7 @@ use Rattle.std.proofs.Common.{◌≡◌, ℕ, zero, suc, refl, ap, sym, ◌∙�
 use Rattle.std.proofs.Math.Dec.{eqb-suc-zero}
 use Rattle.sight_names.specs.declared.faults.WadFault.{WadFault}
 use Rattle.sight_names.specs.declared.faults.WadFault.TheVariants as fault
-use Rattle.wad_dir.specs.Wad.{WadFile, WadLump, Slot, Directory, Reads, wad_fault, wad_of, directory_of, parts_of, file_of, lump_of, lump_under, entry_of, kind_said, unless, slots_of, names_of}
+use Rattle.wad_dir.specs.Wad.{WadFile, WadLump, Slot, Directory, ReadsWad, wad_fault, wad_of, directory_of, directory_of_wad, file_of, lump_of, lump_under, entry_of, kind_said, unless, slots_of, names_of_lumps}
 use Rattle.wad_dir.specs.Map.{entry_names}
 use Rattle.wad_dir.specs.declared.parts.Kind.{Kind}
 use Rattle.wad_dir.specs.declared.parts.Entry.{Entry}
@@ -39,9 +39,9 @@ same_wad bytes None kind slots d e =
     with_kind ls = record { kind = kind; lumps = ls }
 
 both : (bytes : List ℕ) (o : Option WadFault) (kind : Kind) (slots : List Slot) (r : Result Wad WadFault)
-    → Reads parts_of r (unless o (record { kind = kind; entries = map entry_of slots })) → Reads (file_of bytes) r (unless o (record { kind = kind; lumps = map (lump_of bytes) slots }))
+    → ReadsWad directory_of_wad r (unless o (record { kind = kind; entries = map entry_of slots })) → ReadsWad (file_of bytes) r (unless o (record { kind = kind; lumps = map (lump_of bytes) slots }))
 unfolding file_under
-both bytes o kind slots (Ok wad) h = same_wad bytes o kind slots (parts_of wad) h
+both bytes o kind slots (Ok wad) h = same_wad bytes o kind slots (directory_of_wad wad) h
 both bytes o kind slots (Err fault.ShortHeader) h = same_fault o _ _ fault.ShortHeader h
 both bytes o kind slots (Err fault.BadMagic) h = same_fault o _ _ fault.BadMagic h
 both bytes o kind slots (Err fault.BadCount) h = same_fault o _ _ fault.BadCount h
@@ -50,7 +50,7 @@ both bytes o kind slots (Err fault.DirectoryOutside) h = same_fault o _ _ fault.
 both bytes o kind slots (Err (fault.LumpOutside k)) h = same_fault o _ _ (fault.LumpOutside k) h
 both bytes o kind slots (Err (fault.Memory _)) h = tt
 
-pub reads_wad : (bytes : List ℕ) (r : Result Wad WadFault) → Reads parts_of r (directory_of bytes) → Reads (file_of bytes) r (wad_of bytes)
+pub reads_wad : (bytes : List ℕ) (r : Result Wad WadFault) → ReadsWad directory_of_wad r (directory_of bytes) → ReadsWad (file_of bytes) r (wad_of bytes)
 unfolding directory_of wad_of
 reads_wad bytes r h = both bytes (wad_fault bytes) (kind_said bytes) (slots_of bytes) r h
 
@@ -58,6 +58,6 @@ same_names : (bytes : List ℕ) (entries : List Entry) → map (λ (l : WadLump)
 same_names bytes [] = refl
 same_names bytes (e ∷ entries) = ap (λ (ns : List (List ℕ)). e.name ∷ ns) (same_names bytes entries)
 
-pub names_read : (bytes : List ℕ) (r : Result Wad WadFault) → IfOk r (λ wad. names_of (file_of bytes wad) ≡ entry_names wad.entries)
+pub names_read : (bytes : List ℕ) (r : Result Wad WadFault) → IfOk r (λ wad. names_of_lumps (file_of bytes wad) ≡ entry_names wad.entries)
 names_read bytes (Ok wad) = same_names bytes wad.entries
 names_read bytes (Err f) = tt

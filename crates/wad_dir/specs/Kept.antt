@@ -2,7 +2,7 @@
 use Rattle.std.specs.Prelude.{◌≡◌, ◌≢◌, ℕ, ◌+◌, nat_lt, List, length, slice_get, Some, None, Ok, if◌then◌else◌}
 use Rattle.wad_dir.specs.declared.parts.MapSpot.{MapSpot}
 use Rattle.wad_dir.specs.Map.{spot_of}
-use Rattle.wad_dir.specs.Wad.{WadFile, WadLump, names_of}
+use Rattle.wad_dir.specs.Wad.{WadFile, WadLump, names_of_lumps}
 
 -- where the lump of place k stands then
 abbrev pub place_then : MapSpot → ℕ → ℕ
@@ -21,8 +21,8 @@ abbrev pub count_then : MapSpot → ℕ → ℕ
 count_then spot n = elim spot.reject [ Some r ↦ n | None ↦ n + 1 ]
 
 -- the name finds the map at its place in the new lumps, with the same four lumps and this REJECT, and every other lump stays, in order
-pub record IsKept (name : List ℕ) (spot : MapSpot) (table : List ℕ) (old new : WadFile) : Type 0 where
-  pub found : spot_of (names_of new) name ≡ Ok (spot_then spot)
+pub record IsMapKept (name : List ℕ) (spot : MapSpot) (table : List ℕ) (old new : WadFile) : Type 0 where
+  pub found : spot_of (names_of_lumps new) name ≡ Ok (spot_then spot)
   pub linedefs : slice_get new.lumps (spot_then spot).linedefs ≡ slice_get old.lumps spot.linedefs
   pub sidedefs : slice_get new.lumps (spot_then spot).sidedefs ≡ slice_get old.lumps spot.sidedefs
   pub vertexes : slice_get new.lumps (spot_then spot).vertexes ≡ slice_get old.lumps spot.vertexes

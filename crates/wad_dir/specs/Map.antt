@@ -44,8 +44,8 @@ has_name name names = list_any (λ n. same_name n name) names
 abbrev pub text_ends : List (List ℕ)
 text_ends = codes "ENDMAP" ∷ codes "THINGS" ∷ codes "LINEDEFS" ∷ codes "SIDEDEFS" ∷ codes "VERTEXES" ∷ codes "SEGS" ∷ codes "SSECTORS" ∷ codes "NODES" ∷ codes "SECTORS" ∷ []
 
-abbrev pub ends_text : List ℕ → Bool
-ends_text name = list_any (λ n. same_name name n) text_ends
+abbrev pub ends_text_map : List ℕ → Bool
+ends_text_map name = list_any (λ n. same_name name n) text_ends
 
 -- such a lump stands only once in a map of UDMF
 abbrev pub stands_once : List ℕ → Bool
@@ -53,7 +53,7 @@ stands_once name = same_name name (codes "TEXTMAP") || same_name name (codes "RE
 
 -- a name belongs to a run, which is of UDMF or not, behind those before it
 abbrev pub belongs : Bool → List ℕ → List (List ℕ) → Bool
-belongs true name before = not (ends_text name) && not (stands_once name && has_name name before)
+belongs true name before = not (ends_text_map name) && not (stands_once name && has_name name before)
 belongs false name before = is_run_name name && not (has_name name before)
 
 -- the longest stretch of such names behind those before it
@@ -62,25 +62,25 @@ run_from text before [] = before
 run_from text before (n ∷ ns) = if belongs text n before then run_from text (before ++ n ∷ []) ns else before
 
 -- the first of the names is this one
-abbrev pub begins_with : List ℕ → List (List ℕ) → Bool
-begins_with name [] = false
-begins_with name (n ∷ ns) = same_name n name
+abbrev pub begins_with_name : List ℕ → List (List ℕ) → Bool
+begins_with_name name [] = false
+begins_with_name name (n ∷ ns) = same_name n name
 
 -- a map behind whose marker these names follow is of UDMF
 abbrev pub begins_with_textmap : List (List ℕ) → Bool
-begins_with_textmap after = begins_with (codes "TEXTMAP") after
+begins_with_textmap after = begins_with_name (codes "TEXTMAP") after
 
 -- the place of a lump in the run
-abbrev pub place_in : List ℕ → List (List ℕ) → Option ℕ
-place_in name run = position (λ n. same_name n name) run
+abbrev pub place_in_run : List ℕ → List (List ℕ) → Option ℕ
+place_in_run name run = position (λ n. same_name n name) run
 
 -- the name of the lump, which in a map of UDMF is TEXTMAP for all four
-abbrev pub name_of : Bool → Lump → List ℕ
-name_of true lump = codes "TEXTMAP"
-name_of false Linedefs = codes "LINEDEFS"
-name_of false Sidedefs = codes "SIDEDEFS"
-name_of false Vertexes = codes "VERTEXES"
-name_of false Sectors = codes "SECTORS"
+abbrev pub lump_name : Bool → Lump → List ℕ
+lump_name true lump = codes "TEXTMAP"
+lump_name false Linedefs = codes "LINEDEFS"
+lump_name false Sidedefs = codes "SIDEDEFS"
+lump_name false Vertexes = codes "VERTEXES"
+lump_name false Sectors = codes "SECTORS"
 
 infixl 10 ◌>>=◌
 abbrev pub ◌>>=◌ : {A B : Type 0} → Result A MapFault → (A → Result B MapFault) → Result B MapFault
@@ -88,7 +88,7 @@ abbrev pub ◌>>=◌ : {A B : Type 0} → Result A MapFault → (A → Result B 
 (Err e) >>= f = Err e
 
 abbrev pub needed_in : Bool → List (List ℕ) → Lump → Result ℕ MapFault
-needed_in text run lump = elim (place_in (name_of text lump) run) [ Some k ↦ Ok k | None ↦ Err (fault.Missing lump) ]
+needed_in text run lump = elim (place_in_run (lump_name text lump) run) [ Some k ↦ Ok k | None ↦ Err (fault.Missing lump) ]
 
 abbrev pub shifted : ℕ → Option ℕ → Option ℕ
 shifted by None = None
@@ -105,7 +105,7 @@ spot_in marker text format run = do
   sidedefs ← needed_in text run Sidedefs
   vertexes ← needed_in text run Vertexes
   sectors ← needed_in text run Sectors
-  Ok (record { marker = marker; linedefs = marker + 1 + linedefs; sidedefs = marker + 1 + sidedefs; vertexes = marker + 1 + vertexes; sectors = marker + 1 + sectors; reject = shifted (marker + 1) (place_in (codes "REJECT") run); format = format_told text format; text = text })
+  Ok (record { marker = marker; linedefs = marker + 1 + linedefs; sidedefs = marker + 1 + sidedefs; vertexes = marker + 1 + vertexes; sectors = marker + 1 + sectors; reject = shifted (marker + 1) (place_in_run (codes "REJECT") run); format = format_told text format; text = text })
 
 -- the format of a map behind whose run these names follow: BEHAVIOR right behind it means Hexen's
 abbrev pub format_behind : List (List ℕ) → MapFormat
@@ -118,7 +118,7 @@ spot_behind marker after =
     let text : Bool = begins_with_textmap after in
     let run : List (List ℕ) = run_from text [] after in
     let rest : List (List ℕ) = drop (length run) after in
-    if text && not (begins_with (codes "ENDMAP") rest) then Err fault.NoEnd else spot_in marker text (format_behind rest) run
+    if text && not (begins_with_name (codes "ENDMAP") rest) then Err fault.NoEnd else spot_in marker text (format_behind rest) run
 
 -- the spot, among these names, of the map whose marker is the last of that name, or the first check that fails
 unfoldable pub spot_of : List (List ℕ) → List ℕ → Result MapSpot MapFault

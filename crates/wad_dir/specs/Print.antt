@@ -4,7 +4,7 @@ use Rattle.std.specs.List.{flat_map, AllByRecursion}
 use Rattle.std.specs.Int.{w32, to_le_bytes}
 use Rattle.sight_names.specs.declared.limits.TheConstants.{MOST_LUMPS}
 use Rattle.wad_dir.specs.declared.parts.MapSpot.{MapSpot}
-use Rattle.wad_dir.specs.Wad.{WadFile, WadLump, magic, wad_of}
+use Rattle.wad_dir.specs.Wad.{WadFile, WadLump, wad_magic, wad_of}
 
 -- how many bytes all lumps have
 abbrev pub body_len : List WadLump → ℕ
@@ -12,7 +12,7 @@ body_len lumps = sum_by (λ (l : WadLump). length l.bytes) lumps
 
 -- the kind, the number of lumps, and where the directory begins
 abbrev pub header : WadFile → List ℕ
-header w = magic w.kind ++ to_le_bytes w32 (length w.lumps) ++ to_le_bytes w32 (12 + body_len w.lumps)
+header w = wad_magic w.kind ++ to_le_bytes w32 (length w.lumps) ++ to_le_bytes w32 (12 + body_len w.lumps)
 
 -- the bytes of all lumps, in order
 abbrev pub body : List WadLump → List ℕ

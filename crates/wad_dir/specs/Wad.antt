@@ -23,27 +23,27 @@ pub record WadFile : Type 0 where
   pub lumps : List WadLump
 
 -- the names of the lumps, in order
-abbrev pub names_of : WadFile → List (List ℕ)
-names_of w = map (λ (l : WadLump). l.name) w.lumps
+abbrev pub names_of_lumps : WadFile → List (List ℕ)
+names_of_lumps w = map (λ (l : WadLump). l.name) w.lumps
 
 -- ---- the format
 
 -- the four bytes that a WAD begins with
-abbrev pub magic : Kind → List ℕ
-magic Iwad = codes "IWAD"
-magic Pwad = codes "PWAD"
+abbrev pub wad_magic : Kind → List ℕ
+wad_magic Iwad = codes "IWAD"
+wad_magic Pwad = codes "PWAD"
 
 -- the little-endian number of four bytes at a place; as an int32 it is negative from 2 ^ 31 on
 abbrev pub word_at : List ℕ → ℕ → ℕ
 word_at bytes at = from_le_bytes w32 (take 4 (drop at bytes))
 
 -- the kind that the first four bytes say
-abbrev pub kind_of : List ℕ → Option Kind
-kind_of bytes = if bytes_eq (take 4 bytes) (magic Iwad) then Some Iwad else (if bytes_eq (take 4 bytes) (magic Pwad) then Some Pwad else None)
+abbrev pub wad_kind_of : List ℕ → Option Kind
+wad_kind_of bytes = if bytes_eq (take 4 bytes) (wad_magic Iwad) then Some Iwad else (if bytes_eq (take 4 bytes) (wad_magic Pwad) then Some Pwad else None)
 
 -- the number of lumps, and the place of the directory
-abbrev pub count_of : List ℕ → ℕ
-count_of bytes = word_at bytes 4
+abbrev pub lump_count_of : List ℕ → ℕ
+lump_count_of bytes = word_at bytes 4
 
 abbrev pub directory_place : List ℕ → ℕ
 directory_place bytes = word_at bytes 8
@@ -65,7 +65,7 @@ slots_at bytes at (suc n) = slots_at bytes at n ++ slot_at bytes (at + 16 * n) �
 
 -- the entries of the directory
 abbrev pub slots_of : List ℕ → List Slot
-slots_of bytes = slots_at bytes (directory_place bytes) (count_of bytes)
+slots_of bytes = slots_at bytes (directory_place bytes) (lump_count_of bytes)
 
 -- a negative size, or a size above 0 and bytes that begin below 0 or end behind the file
 abbrev pub is_outside : ℕ → Slot → Bool
@@ -73,15 +73,15 @@ is_outside len s = nat_le (2 ^ 31) s.size || (not (s.size == 0) && (nat_le (2 ^ 
 
 -- a directory that isn't empty begins below 0 or ends behind the file
 abbrev pub is_directory_outside : List ℕ → Bool
-is_directory_outside bytes = not (count_of bytes == 0) && (nat_le (2 ^ 31) (directory_place bytes) || nat_lt (length bytes) (directory_place bytes + 16 * count_of bytes))
+is_directory_outside bytes = not (lump_count_of bytes == 0) && (nat_le (2 ^ 31) (directory_place bytes) || nat_lt (length bytes) (directory_place bytes + 16 * lump_count_of bytes))
 
 -- the first check that fails
 unfoldable pub wad_fault : List ℕ → Option WadFault
 wad_fault bytes =
     if nat_lt (length bytes) 12 then Some fault.ShortHeader
-    else (if is_none (kind_of bytes) then Some fault.BadMagic
-    else (if nat_le (2 ^ 31) (count_of bytes) then Some fault.BadCount
-    else (if nat_lt MOST_LUMPS (count_of bytes) then Some fault.TooManyLumps
+    else (if is_none (wad_kind_of bytes) then Some fault.BadMagic
+    else (if nat_le (2 ^ 31) (lump_count_of bytes) then Some fault.BadCount
+    else (if nat_lt MOST_LUMPS (lump_count_of bytes) then Some fault.TooManyLumps
     else (if is_directory_outside bytes then Some fault.DirectoryOutside
     else option_map fault.LumpOutside (position_from (is_outside (length bytes)) 0 (slots_of bytes))))))
 
@@ -93,7 +93,7 @@ unless fault x = elim fault [ Some f ↦ Err f | None ↦ Ok x ]
 
 -- the kind, where no check fails
 abbrev pub kind_said : List ℕ → Kind
-kind_said bytes = if bytes_eq (take 4 bytes) (magic Iwad) then Iwad else Pwad
+kind_said bytes = if bytes_eq (take 4 bytes) (wad_magic Iwad) then Iwad else Pwad
 
 -- the lump of an entry
 abbrev pub lump_of : List ℕ → Slot → WadLump
@@ -114,8 +114,8 @@ pub record Directory : Type 0 where
   pub kind : Kind
   pub entries : List Entry
 
-abbrev pub parts_of : Wad → Directory
-parts_of wad = record { kind = wad.kind; entries = wad.entries }
+abbrev pub directory_of_wad : Wad → Directory
+directory_of_wad wad = record { kind = wad.kind; entries = wad.entries }
 
 -- the directory that bytes have, or the first check that fails
 unfoldable pub directory_of : List ℕ → Result Directory WadFault
@@ -134,11 +134,11 @@ abbrev pub lies_within : ℕ → Entry → Bool
 lies_within len e = nat_lt e.size (2 ^ 31) && nat_lt e.at (2 ^ 31) && nat_le (e.at + e.size) len
 
 -- What was read is what the bytes say, unless memory ran out.
-abbrev pub Reads : {V D : Type 0} → (V → D) → Result V WadFault → Result D WadFault → Type 0
-Reads view (Ok v) said = said ≡ Ok (view v)
-Reads view (Err (fault.Memory _)) said = ⊤
-Reads view (Err f) said = said ≡ Err f
+abbrev pub ReadsWad : {V D : Type 0} → (V → D) → Result V WadFault → Result D WadFault → Type 0
+ReadsWad view (Ok v) said = said ≡ Ok (view v)
+ReadsWad view (Err (fault.Memory _)) said = ⊤
+ReadsWad view (Err f) said = said ≡ Err f
 
 -- the entries, or the first that lies outside
-abbrev pub checked : ℕ → List Slot → Result (List Entry) WadFault
-checked len slots = elim (position_from (is_outside len) 0 slots) [ Some k ↦ Err (fault.LumpOutside k) | None ↦ Ok (map entry_of slots) ]
+abbrev pub entries_within : ℕ → List Slot → Result (List Entry) WadFault
+entries_within len slots = elim (position_from (is_outside len) 0 slots) [ Some k ↦ Err (fault.LumpOutside k) | None ↦ Ok (map entry_of slots) ]

@@ -2,7 +2,7 @@
 
 ghost use Rattle.std.specs.Prelude.{◌≡◌, ◌+◌, ◌*◌, ◌≤◌, ◌<◌, length, take, drop, map, vec_len, IfOk, IfSome, IfNone, All, IsTrue, not, IfSome};
 ghost use Rattle.std.specs.List.{position_from};
-ghost use Rattle.wad_dir.specs.Wad.{Reads, directory_of, wad_of, file_of, parts_of, names_of, word_at, entry_of, slot_at, slots_at, lies_within, kind_of, checked};
+ghost use Rattle.wad_dir.specs.Wad.{ReadsWad, directory_of, wad_of, file_of, directory_of_wad, names_of_lumps, word_at, entry_of, slot_at, slots_at, lies_within, wad_kind_of, entries_within};
 ghost use Rattle.wad_dir.specs.Map.{entry_names};
 
 use crate::parts::{Entry, Kind, Wad};
@@ -84,7 +84,7 @@ fn checked_entries(
     requires within { at + 16 * count ≤ length bytes.now }
     ensures few { IfOk result (λ entries. vec_len entries ≡ count) }
     ensures inside { IfOk result (λ entries. All (λ entry. entry.at + entry.size ≤ length bytes.now) entries.items) }
-    ensures read { Reads (λ entries. entries.items) result (checked (length bytes.now) (slots_at bytes.now at count)) }
+    ensures read { ReadsWad (λ entries. entries.items) result (entries_within (length bytes.now) (slots_at bytes.now at count)) }
 {
     let entries = read_entries(alloc, bytes, at, count)?;
     match first_outside(bytes.len(), &entries) {
@@ -97,7 +97,7 @@ fn checked_entries(
 
 fn read_kind(bytes: &[u8]) -> Option<Kind>
     requires { 4 ≤ length bytes.now }
-    ensures { result ≡ kind_of bytes.now }
+    ensures { result ≡ wad_kind_of bytes.now }
 {
     let first = &bytes[..4];
     if first == b"IWAD".as_slice() {
@@ -112,7 +112,7 @@ fn read_kind(bytes: &[u8]) -> Option<Kind>
 #[tactic(auto, unfolding(crate::specs::Wad::directory_of, crate::specs::Wad::wad_fault))]
 fn read_directory(alloc: Global, bytes: &[u8]) -> Result<Wad, WadFault>
     ensures inside { IfOk result (λ wad. All (λ entry. entry.at + entry.size ≤ length bytes.now) wad.entries) }
-    ensures read { Reads parts_of result (directory_of bytes.now) }
+    ensures read { ReadsWad directory_of_wad result (directory_of bytes.now) }
 {
     if bytes.len() < HEADER {
         return Err(WadFault::ShortHeader);
@@ -148,12 +148,12 @@ fn read_directory(alloc: Global, bytes: &[u8]) -> Result<Wad, WadFault>
 /// The directory of a WAD, or the first check that fails.
 pub fn read_wad(alloc: Global, bytes: &[u8]) -> Result<Wad, WadFault>
     // The kind and the lumps that it stands for, or the fault.
-    ensures wad { Reads (file_of bytes.now) result (wad_of bytes.now) }
+    ensures wad { ReadsWad (file_of bytes.now) result (wad_of bytes.now) }
     // The entries, each where its bytes lie.
-    ensures directory { Reads parts_of result (directory_of bytes.now) }
+    ensures directory { ReadsWad directory_of_wad result (directory_of bytes.now) }
     // What callers need of it.
     ensures inside { IfOk result (λ wad. All (λ entry. entry.at + entry.size ≤ length bytes.now) wad.entries) }
-    ensures names { IfOk result (λ wad. names_of (file_of bytes.now wad) ≡ entry_names wad.entries) }
+    ensures names { IfOk result (λ wad. names_of_lumps (file_of bytes.now wad) ≡ entry_names wad.entries) }
 {
     read_directory(alloc, bytes)
 }

@@ -1,7 +1,7 @@
 //! The place of a map in a directory.
 
 ghost use Rattle.std.specs.Prelude.{◌≡◌, ◌+◌, ◌≤◌, ◌<◌, [], length, take, IfOk, IfSome, None, not, ◌&&◌, codes};
-ghost use Rattle.wad_dir.specs.Map.{begins_with, belongs, ends_text, same_name, stands_once, last_from, run_from, is_run_name, has_name, place_in, needed_in, format_behind, spot_in, spot_behind, spot_of, name_of, entry_names};
+ghost use Rattle.wad_dir.specs.Map.{begins_with_name, belongs, ends_text_map, same_name, stands_once, last_from, run_from, is_run_name, has_name, place_in_run, needed_in, format_behind, spot_in, spot_behind, spot_of, lump_name, entry_names};
 
 use crate::parts::{Entry, MapSpot, Wad};
 use sight_names::{Lump, MOST_LUMPS, MapFault, MapFormat};
@@ -76,7 +76,7 @@ fn has_named(entries: &[Entry], name: &[u8]) -> bool
 
 /// Whether the lumps of a map of UDMF end before an entry of this name.
 fn ends_text(name: &[u8]) -> bool
-    ensures { result ≡ ends_text name.now }
+    ensures { result ≡ ends_text_map name.now }
 {
     is_same_name(name, b"ENDMAP")
         || is_same_name(name, b"THINGS")
@@ -121,7 +121,7 @@ fn run_at_front(text: bool, entries: &[Entry]) -> usize
 
 /// Whether the first of these entries has this name.
 fn begins_with(name: &[u8], entries: &[Entry]) -> bool
-    ensures { result ≡ begins_with name.now (entry_names entries.now) }
+    ensures { result ≡ begins_with_name name.now (entry_names entries.now) }
 {
     match entries {
         [] => false,
@@ -130,7 +130,7 @@ fn begins_with(name: &[u8], entries: &[Entry]) -> bool
 }
 
 fn place_of(run: &[Entry], name: &[u8]) -> Option<usize>
-    ensures place { result ≡ place_in name.now (entry_names run.now) }
+    ensures place { result ≡ place_in_run name.now (entry_names run.now) }
     ensures within { IfSome result (λ k. k < length run.now) }
 {
     for (k, entry) in run.iter().enumerate() {
@@ -142,7 +142,7 @@ fn place_of(run: &[Entry], name: &[u8]) -> Option<usize>
 }
 
 fn bytes_of_name(text: bool, lump: Lump) -> &'static [u8]
-    ensures { result.now ≡ name_of text lump }
+    ensures { result.now ≡ lump_name text lump }
 {
     if text {
         return b"TEXTMAP";
@@ -208,7 +208,7 @@ fn spot(marker: usize, text: bool, format: MapFormat, run: &[Entry]) -> Result<M
 
 /// Whether a map behind whose lumps these entries follow is of UDMF, and ENDMAP doesn't stand there.
 fn lacks_end(text: bool, rest: &[Entry]) -> bool
-    ensures { result ≡ (text && not (begins_with (codes "ENDMAP") (entry_names rest.now))) }
+    ensures { result ≡ (text && not (begins_with_name (codes "ENDMAP") (entry_names rest.now))) }
 {
     text && !begins_with(b"ENDMAP", rest)
 }

@@ -85,7 +85,7 @@ fn behind_one(alloc: Global, left: Pt, right: Pt, last: Pt) -> Result<Passed, Me
 {
     let mut sleeve = Sleeve::new(alloc);
     sleeve.begin(left, right)?;
-    sleeve.by_right(last, right)
+    sleeve.by_new_left(last, right)
 }
 
 // What comes of it behind two, of which the second has the first one's left end.
@@ -96,8 +96,8 @@ fn behind_two(alloc: Global, left: Pt, first: Pt, right: Pt, last: Pt) -> Result
 {
     let mut sleeve = Sleeve::new(alloc);
     sleeve.begin(left, first)?;
-    match sleeve.by_left(left, right)? {
-        Passed::Open => sleeve.by_right(last, right),
+    match sleeve.by_new_right(left, right)? {
+        Passed::Open => sleeve.by_new_left(last, right),
         Passed::Stuck(evidence) => Ok(Passed::Stuck(evidence)),
     }
 }

@@ -20,7 +20,7 @@ use Rattle.certificates.specs.Grammar.{IsThreeInOrder}
 use Rattle.group_job.specs.Built.{HasRaysOfFound, HasTreesOfUnspent, OfTwo}
 use Rattle.group_job.proofs.Following.{set_or_clear}
 use Rattle.gate_floods.specs.Exact.{TellsAll}
-use Rattle.whole_wad.specs.Built.{Decides, IsSymmetric, ListsWithin, TellsSight}
+use Rattle.whole_wad.specs.Built.{Decides, IsTableSymmetric, ListsWithin, TellsSightButListed}
 
 -- ---- within a budget
 
@@ -35,7 +35,7 @@ never_listed : (m : Map) (a b : ℕ) → IsListedByGroups m Full a b → ⊥
 never_listed m a b h = h.some.4.spent
 
 module _ (m : Map) (t : TableParts) (sectors : t.n ≡ m.sectors) (tells : TellsAll m t) where
-  pub symmetric : IsSymmetric t
+  pub symmetric : IsTableSymmetric t
   symmetric x y lx ly bit = elim (set_or_clear t y x) as (λ _. Rejects t y x) [
     | inl set ↦ set
     | inr clear ↦ absurd (tells.blind x y (low x lx) (low y ly) bit (sees_sym m y x (tells.seen y x (low y ly) (low x lx) clear)))
@@ -44,7 +44,7 @@ module _ (m : Map) (t : TableParts) (sectors : t.n ≡ m.sectors) (tells : Tells
       low : (k : ℕ) → k < t.n → k < m.sectors
       low k h = subst (λ (n : ℕ). k < n) sectors h
 
-  pub sight : TellsSight m t []
+  pub sight : TellsSightButListed m t []
   sight = record { blind = tells.blind; seen = λ x y lx ly clear first second. tells.seen x y lx ly clear }
 
   pub decides : Decides m ask.Full t []

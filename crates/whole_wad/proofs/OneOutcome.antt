@@ -15,19 +15,19 @@ use Rattle.map_answers.specs.declared.sight_status.status.Status.{Status}
 use Rattle.map_answers.specs.declared.sight_status.status.Status.TheVariants as status
 use Rattle.map_answers.specs.Input.{map_named}
 use Rattle.map_answers.proofs.Flaws.{one_side}
-use Rattle.wad_dir.specs.AllMaps.Names.{word_of}
+use Rattle.wad_dir.specs.AllMaps.Names.{name_before_nul}
 use Rattle.whole_wad.specs.declared.outcomes.MapOutcome.{MapOutcome}
 use Rattle.whole_wad.specs.declared.tables.MapTable.{MapTable}
 use Rattle.refused_maps.specs.declared.Refused.{Refused}
-use Rattle.whole_wad.specs.Outcomes.{AreOutcomes, ComesOf, OutcomesAreOne, stop_of}
+use Rattle.whole_wad.specs.Outcomes.{AreOutcomes, ComesOf, OutcomesAreOne, stop_of_all}
 use Rattle.whole_wad.specs.Rejects.{fate_of, reject_named}
 use Rattle.whole_wad.specs.Stop.{IsThisOr, StopsAt}
-use Rattle.whole_wad.specs.Tables.{Gets, IsFlawOf, IsTableOf, built_with}
+use Rattle.whole_wad.specs.Tables.{Gets, IsFlawOf, IsTableOfMap, built_with}
 use Rattle.whole_wad.proofs.OneTable.{one_table}
 
 -- ---- of one map
 
-pub one_made : (m : Map) (by : Method) (one other : MapTable) → IsTableOf m by one → IsTableOf m by other → one ≡ other
+pub one_made : (m : Map) (by : Method) (one other : MapTable) → IsTableOfMap m by one → IsTableOfMap m by other → one ≡ other
 one_made m by one other h k =
     let same = one_table m by (built_with one h.cert) (built_with other k.cert) h.is_built k.is_built in
     λ i. record { table = same.table i; listed = same.listed i }
@@ -72,8 +72,8 @@ other_names (n ∷ ns) = ns
 
 one_outcome : (w : WadFile) (large : Bool) (by : Method) (choice : Refused) (one other : MapOutcome) → one.name ≡ other.name → ComesOf w large by choice one → ComesOf w large by choice other → one ≡ other
 one_outcome w large by choice one other e h k =
-    let made = one_got (map_named large w (word_of other.name)) by one.made other.made (subst (λ (n : List ℕ). Gets (map_named large w (word_of n)) by one.made) e h.gets) k.gets in
-    let fate : one.fate ≡ other.fate = h.fate ∙ (λ i. fate_of choice (map_named large w (word_of (e i))) (reject_named w (word_of (e i))) (made i)) ∙ sym k.fate in
+    let made = one_got (map_named large w (name_before_nul other.name)) by one.made other.made (subst (λ (n : List ℕ). Gets (map_named large w (name_before_nul n)) by one.made) e h.gets) k.gets in
+    let fate : one.fate ≡ other.fate = h.fate ∙ (λ i. fate_of choice (map_named large w (name_before_nul (e i))) (reject_named w (name_before_nul (e i))) (made i)) ∙ sym k.fate in
     λ i. record { name = e i; made = made i; fate = fate i }
 
 one_list : (w : WadFile) (large : Bool) (by : Method) (choice : Refused) (ones others : List MapOutcome) → named ones ≡ named others → AllByRecursion (ComesOf w large by choice) ones → AllByRecursion (ComesOf w large by choice) others → ones ≡ others
@@ -100,22 +100,22 @@ one_this None s t Later Others later h k = later h k
 pub one_stop : (w : WadFile) (large : Bool) (by : Method) (choice : Refused) (s t : Status) (names : List (List ℕ)) → StopsAt w large by choice s names → StopsAt w large by choice t names → s ≡ t
 one_stop w large by choice s t [] h k = absurd h
 one_stop w large by choice s t (n ∷ ns) h k =
-    let made = one_got (map_named large w (word_of n)) by h.0 k.0 h.1 k.1 in
-    one_this (stop_of choice k.0) s t (StopsAt w large by choice s ns) (StopsAt w large by choice t ns) (one_stop w large by choice s t ns)
-    (subst (λ (r : Result MapTable Status). IsThisOr (stop_of choice r) s (StopsAt w large by choice s ns)) made h.2) k.2
+    let made = one_got (map_named large w (name_before_nul n)) by h.0 k.0 h.1 k.1 in
+    one_this (stop_of_all choice k.0) s t (StopsAt w large by choice s ns) (StopsAt w large by choice t ns) (one_stop w large by choice s t ns)
+    (subst (λ (r : Result MapTable Status). IsThisOr (stop_of_all choice r) s (StopsAt w large by choice s ns)) made h.2) k.2
 
 none_this : (r : Option Status) (s : Status) (Later : Type 0) → r ≡ None → IsThisOr r s Later → Later
 none_this None s Later e h = h
 none_this (Some stop) s Later e h = absurd cc
 
-goes_past : (w : WadFile) (large : Bool) (by : Method) (choice : Refused) (s : Status) (names : List (List ℕ)) (outcomes : List MapOutcome) → named outcomes ≡ names → AllByRecursion (ComesOf w large by choice) outcomes → AllByRecursion (λ (o : MapOutcome). stop_of choice o.made ≡ None) outcomes → StopsAt w large by choice s names → ⊥
+goes_past : (w : WadFile) (large : Bool) (by : Method) (choice : Refused) (s : Status) (names : List (List ℕ)) (outcomes : List MapOutcome) → named outcomes ≡ names → AllByRecursion (ComesOf w large by choice) outcomes → AllByRecursion (λ (o : MapOutcome). stop_of_all choice o.made ≡ None) outcomes → StopsAt w large by choice s names → ⊥
 unfolding named
 goes_past w large by choice s [] os e h g k = absurd k
 goes_past w large by choice s (n ∷ ns) [] e h g k = absurd cc
 goes_past w large by choice s (n ∷ ns) (o ∷ os) e h g k =
-    let gets = subst (λ (x : List ℕ). Gets (map_named large w (word_of x)) by o.made) (ap first_name e) h.0.gets in
-    let made = one_got (map_named large w (word_of n)) by o.made k.0 gets k.1 in
-    goes_past w large by choice s ns os (ap other_names e) h.1 g.1 (none_this (stop_of choice k.0) s (StopsAt w large by choice s ns) (subst (λ (r : Result MapTable Status). stop_of choice r ≡ None) made g.0) k.2)
+    let gets = subst (λ (x : List ℕ). Gets (map_named large w (name_before_nul x)) by o.made) (ap first_name e) h.0.gets in
+    let made = one_got (map_named large w (name_before_nul n)) by o.made k.0 gets k.1 in
+    goes_past w large by choice s ns os (ap other_names e) h.1 g.1 (none_this (stop_of_all choice k.0) s (StopsAt w large by choice s ns) (subst (λ (r : Result MapTable Status). stop_of_all choice r ≡ None) made g.0) k.2)
 
 -- where something comes of all maps, none stops them
 pub none_stops : (w : WadFile) (large : Bool) (by : Method) (choice : Refused) (s : Status) (names : List (List ℕ)) (outcomes : List MapOutcome) → AreOutcomes w large names by choice outcomes → StopsAt w large by choice s names → ⊥

@@ -13,7 +13,7 @@ use Rattle.sight_names.specs.Groups.{IsListedByGroups}
 use Rattle.sight_names.specs.Map.{Map}
 use Rattle.sight_names.specs.Table.{table_bit}
 use Rattle.sight_names.proofs.Lists.{same_ascending}
-use Rattle.reject_bits.specs.Parts.{IsWhole, Rejects, TableParts}
+use Rattle.reject_bits.specs.Parts.{IsTableWhole, Rejects, TableParts}
 use Rattle.cert_format.specs.declared.cert_groups.cert.AnyCert.TheVariants.{One, Two}
 use Rattle.cert_format.proofs.CertGroups.PartLaws.{none_ascend}
 use Rattle.certificates.specs.declared.certificate.Certificate.{Certificate}
@@ -62,7 +62,7 @@ not_both_before p q (inr h) (inl k) = let e = h.0 in omega (arith, k)
 not_both_before p q (inr h) (inr k) = let e = h.1 in let f = k.1 in omega arith
 
 -- a bit past those of the pairs is clear
-pub spare_clear : (n : ℕ) (t : TableParts) → t.n ≡ n → IsWhole t → (k : ℕ) → n * n ≤ k → table_bit t.bytes k ≡ 0
+pub spare_clear : (n : ℕ) (t : TableParts) → t.n ≡ n → IsTableWhole t → (k : ℕ) → n * n ≤ k → table_bit t.bytes k ≡ 0
 spare_clear n t sectors whole k h = elim (below_or_not k (8 * length t.bytes)) as (λ _. table_bit t.bytes k ≡ 0) [
   | inl lt ↦ whole.no_spare k (subst (λ (x : ℕ). x * x ≤ k) (sym sectors) h) lt
   | inr past ↦ ap (λ (x : ℕ). bit_at x (k % 8)) (get_or_past t.bytes (k / 8) 0 (past_bytes (length t.bytes) k past)) ∙ bit_at-zero (k % 8)

@@ -6,13 +6,13 @@ use Rattle.sight_names.specs.Plan.{IsPlan, PlanParts}
 use Rattle.sight_names.specs.Points.{points_of}
 use Rattle.sight_names.proofs.PlanPoints.{seen_points}
 use Rattle.cert_format.specs.declared.cert.Sizes.{Sizes}
-use Rattle.cert_format.specs.Sizes.{sizes_of}
+use Rattle.cert_format.specs.Sizes.{sizes_of_plan}
 use Rattle.whole_wad.specs.Sizes.{sizes_of_map}
 
 sizes : ℕ → ℕ → ℕ → Sizes
 sizes s p l = record { sectors = s; points = p; lines = l }
 
-pub same_sizes : (p : PlanParts) → IsPlan p → sizes_of p ≡ sizes_of_map (map_of p)
+pub same_sizes : (p : PlanParts) → IsPlan p → sizes_of_plan p ≡ sizes_of_map (map_of p)
 unfolding sizes
 same_sizes p h =
     let points : length p.points ≡ length (points_of (map_of p)) = ap length (sym (seen_points p p refl h)) in

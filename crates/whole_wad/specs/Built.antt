@@ -10,13 +10,13 @@ use Rattle.sight_names.specs.Enough.{IsBudgetOf}
 use Rattle.sight_names.specs.Groups.{AreGroups, HasClosedFaces, IsListedByGroups}
 use Rattle.sight_names.specs.Map.{Map}
 use Rattle.sight_names.specs.Sees.{Sees}
-use Rattle.reject_bits.specs.Parts.{IsWhole, Rejects, TableParts}
+use Rattle.reject_bits.specs.Parts.{IsTableWhole, Rejects, TableParts}
 use Rattle.cert_format.specs.declared.cert_groups.cert.AnyCert.{AnyCert}
 use Rattle.cert_format.specs.declared.cert_groups.cert.CertTwo.{CertTwo}
 use Rattle.certificates.specs.declared.cert_exact.cert.ExactParts.{ExactParts}
 use Rattle.certificates.specs.declared.certificate.Certificate.{Certificate}
 use Rattle.certificates.specs.declared.certificate.Certificate.TheVariants.{Listing, Exact}
-use Rattle.certificates.specs.Grammar.{IsInOrder, sizes_of}
+use Rattle.certificates.specs.Grammar.{IsInOrder, sizes_of_certificate}
 use Rattle.group_job.specs.Built.{HasRaysOfFound, HasTreesOfUnspent, OfTwo}
 use Rattle.gate_floods.specs.Exact.{TellsAll}
 use Rattle.any_judge.specs.Accepted.{IsAccepted}
@@ -38,11 +38,11 @@ AreBytes bytes = (i : ℕ) → slice_index bytes i < 256
 -- ---- the table and the list
 
 -- the two bits of a pair are one
-abbrev pub IsSymmetric : TableParts → Type 0
-IsSymmetric t = (x y : ℕ) → x < t.n → y < t.n → Rejects t x y → Rejects t y x
+abbrev pub IsTableSymmetric : TableParts → Type 0
+IsTableSymmetric t = (x y : ℕ) → x < t.n → y < t.n → Rejects t x y → Rejects t y x
 
 -- sectors whose bit is set don't see each other; those whose bit is clear do, unless their pair is listed
-pub record TellsSight (m : Map) (t : TableParts) (listed : List Pair) : Type 0 where
+pub record TellsSightButListed (m : Map) (t : TableParts) (listed : List Pair) : Type 0 where
   pub blind : (x y : ℕ) → x < m.sectors → y < m.sectors → Rejects t x y → ¬ Sees m x y
   pub seen : (x y : ℕ) → x < m.sectors → y < m.sectors → ¬ Rejects t x y → ¬ Contains listed (record { a = x; b = y }) → ¬ Contains listed (record { a = y; b = x }) → Sees m x y
 
@@ -94,21 +94,21 @@ pub record IsBuiltOf (m : Map) (by : Method) (built : Built) : Type 0 where
   pub fit : HasClosedFaces m
   pub sectors : built.table.n ≡ m.sectors
   -- the table has as many bytes as its sectors ask, and the bits behind the last pair are clear
-  pub table_is_whole : IsWhole built.table
+  pub table_is_whole : IsTableWhole built.table
   pub are_bytes : AreBytes built.table.bytes
   -- the certificate is for a map of these sizes
-  pub sizes : sizes_of built.cert ≡ sizes_of_map m
+  pub sizes : sizes_of_certificate built.cert ≡ sizes_of_map m
   pub in_order : IsInOrder built.cert
   -- The certificate is accepted for the table: its triangles are a good mesh, its rays sight rays, and its trees and
   -- each pair keep the rules of its version. So `check` says yes to it.
   pub accepted : IsAccepted m built.table.bytes built.cert
-  pub symmetric : IsSymmetric built.table
+  pub symmetric : IsTableSymmetric built.table
   pub decided : Decides m (ask_of by) built.table built.listed
   -- with a budget that is enough, and without any, no pair is listed
   pub none_listed : ask_of by ≡ Enough → built.listed ≡ []
   pub none_listed_in_full : ask_of by ≡ Full → built.listed ≡ []
   -- sectors whose bit is set don't see each other; those whose bit is clear do, unless their pair is listed
-  pub sight : TellsSight m built.table built.listed
+  pub sight : TellsSightButListed m built.table built.listed
   pub by_method : DecidedBy m by built
 
 -- The two have one table, byte for byte, and one list.

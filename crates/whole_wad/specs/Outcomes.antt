@@ -13,26 +13,26 @@ use Rattle.whole_wad.specs.declared.fate.Fate.{Fate}
 use Rattle.whole_wad.specs.declared.fate.Fate.TheVariants as fate
 use Rattle.whole_wad.specs.declared.outcomes.MapOutcome.{MapOutcome}
 use Rattle.whole_wad.specs.declared.tables.MapTable.{MapTable}
-use Rattle.wad_dir.specs.AllMaps.Names.{word_of}
+use Rattle.wad_dir.specs.AllMaps.Names.{name_before_nul}
 use Rattle.whole_wad.specs.Rejects.{fate_of, reject_named}
 use Rattle.whole_wad.specs.Tables.{Gets}
 
 -- What comes of a map by its name: what it gets by this method is its table exactly where it is within the limits, the larger ones or the
 -- usual ones, and sound, or the first check that fails; and what becomes of its REJECT by what is chosen for refused maps.
 pub record ComesOf (w : WadFile) (large : Bool) (by : Method) (choice : Refused) (outcome : MapOutcome) : Type 0 where
-  pub gets : Gets (map_named large w (word_of outcome.name)) by outcome.made
-  pub fate : outcome.fate ≡ fate_of choice (map_named large w (word_of outcome.name)) (reject_named w (word_of outcome.name)) outcome.made
+  pub gets : Gets (map_named large w (name_before_nul outcome.name)) by outcome.made
+  pub fate : outcome.fate ≡ fate_of choice (map_named large w (name_before_nul outcome.name)) (reject_named w (name_before_nul outcome.name)) outcome.made
 
 -- the refusal, where it stops all
-abbrev pub stop_of : Refused → Result MapTable Status → Option Status
-stop_of refused.Stop (Err refusal) = Some refusal
-stop_of choice made = None
+abbrev pub stop_of_all : Refused → Result MapTable Status → Option Status
+stop_of_all refused.Stop (Err refusal) = Some refusal
+stop_of_all choice made = None
 
 -- there is one outcome for each map of these names, in order, and none stops all
 pub record AreOutcomes (w : WadFile) (large : Bool) (names : List (List ℕ)) (by : Method) (choice : Refused) (outcomes : List MapOutcome) : Type 0 where
   pub each : map (λ (o : MapOutcome). o.name) outcomes ≡ names
   pub comes : AllByRecursion (ComesOf w large by choice) outcomes
-  pub goes_on : AllByRecursion (λ (o : MapOutcome). stop_of choice o.made ≡ None) outcomes
+  pub goes_on : AllByRecursion (λ (o : MapOutcome). stop_of_all choice o.made ≡ None) outcomes
 
 abbrev pub change_by : List ℕ → Result MapTable Status → Fate → Option Change
 change_by name (Ok made) fate = Some (record { name = name; table = made.table.bytes })

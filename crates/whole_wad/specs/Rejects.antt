@@ -4,7 +4,7 @@ use Rattle.std.specs.Int.{div_ceil}
 use Rattle.std.specs.List.{list_all}
 use Rattle.sight_names.specs.Map.{Map}
 use Rattle.wad_dir.specs.Map.{spot_of}
-use Rattle.wad_dir.specs.Wad.{WadFile, names_of}
+use Rattle.wad_dir.specs.Wad.{WadFile, names_of_lumps}
 use Rattle.table_compare.specs.Compared.{bits_changed}
 use Rattle.refused_maps.specs.declared.Refused.{Refused}
 use Rattle.refused_maps.specs.declared.Refused.TheVariants as refused
@@ -23,7 +23,7 @@ reject_at file (Some k) = lump_at file k
 
 -- those of the map of a name
 abbrev pub reject_named : WadFile → List ℕ → List ℕ
-reject_named file name = elim (spot_of (names_of file) name) [ Ok spot ↦ reject_at file spot.reject | Err fault ↦ [] ]
+reject_named file name = elim (spot_of (names_of_lumps file) name) [ Ok spot ↦ reject_at file spot.reject | Err fault ↦ [] ]
 
 -- the bytes of a table of n sectors
 abbrev pub table_len : ℕ → ℕ

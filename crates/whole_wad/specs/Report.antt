@@ -11,7 +11,7 @@ use Rattle.whole_wad.specs.declared.fate.Fate.{Fate}
 use Rattle.whole_wad.specs.declared.fate.Fate.TheVariants as fate
 use Rattle.whole_wad.specs.declared.outcomes.MapOutcome.{MapOutcome}
 use Rattle.whole_wad.specs.declared.tables.MapTable.{MapTable}
-use Rattle.wad_dir.specs.AllMaps.Names.{word_of}
+use Rattle.wad_dir.specs.AllMaps.Names.{name_before_nul}
 use Rattle.row_spelling.specs.declared.Spelling.{Spelling}
 use Rattle.row_spelling.specs.declared.Spelling.TheVariants as spelling
 use Rattle.row_spelling.specs.Quoted.{quoted}
@@ -35,7 +35,7 @@ fate_words (fate.Cleared table) = codes " cleared"
 
 -- one line: the name, the counts of the table or the refusal, and what becomes of the REJECT
 abbrev pub map_line : MapOutcome → List ℕ
-map_line outcome = word_of outcome.name ++ made_words outcome.made ++ fate_words outcome.fate ++ codes "\n"
+map_line outcome = name_before_nul outcome.name ++ made_words outcome.made ++ fate_words outcome.fate ++ codes "\n"
 
 -- ---- the same as a JSON object, whose members are named by the words of the line
 
@@ -54,7 +54,7 @@ fate_json fate.KeptClear = codes ",\"kept\":\"clear\""
 fate_json (fate.Cleared table) = codes ",\"cleared\":true"
 
 abbrev pub map_json : MapOutcome → List ℕ
-map_json outcome = codes "{\"map\":" ++ quoted (word_of outcome.name) ++ made_json outcome.made ++ fate_json outcome.fate ++ codes "}\n"
+map_json outcome = codes "{\"map\":" ++ quoted (name_before_nul outcome.name) ++ made_json outcome.made ++ fate_json outcome.fate ++ codes "}\n"
 
 -- ---- the report
 
@@ -64,5 +64,5 @@ map_row spelling.Text outcome = map_line outcome
 map_row spelling.Json outcome = map_json outcome
 
 -- one line a map
-abbrev pub report_of : Spelling → List MapOutcome → List ℕ
-report_of spelled outcomes = flat_map (map_row spelled) outcomes
+abbrev pub outcomes_report : Spelling → List MapOutcome → List ℕ
+outcomes_report spelled outcomes = flat_map (map_row spelled) outcomes

@@ -18,7 +18,7 @@ abbrev pub built_with : MapTable → Certificate → Built
 built_with made cert = record { table = made.table; listed = made.listed; cert = cert }
 
 -- This is the table of the map by this method, and its list: some certificate was built with them.
-pub record IsTableOf (m : Map) (by : Method) (made : MapTable) : Type 0 where
+pub record IsTableOfMap (m : Map) (by : Method) (made : MapTable) : Type 0 where
   pub cert : Certificate
   pub is_built : IsBuiltOf m by (built_with made cert)
 
@@ -30,7 +30,7 @@ IsFlawOf m other = ⊥
 
 -- what a map gets that was read, or why none was read
 abbrev pub Gets : Result Map Status → Method → Result MapTable Status → Type 0
-Gets (Ok m) by (Ok made) = IsTableOf m by made
+Gets (Ok m) by (Ok made) = IsTableOfMap m by made
 Gets (Ok m) by (Err refusal) = IsFlawOf m refusal
 Gets (Err refusal) by made = made ≡ Err refusal
 

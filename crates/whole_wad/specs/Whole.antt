@@ -16,7 +16,7 @@ use Rattle.whole_wad.specs.declared.whole.Unmade.{Unmade}
 use Rattle.whole_wad.specs.declared.whole.Unmade.TheVariants as unmade
 use Rattle.whole_wad.specs.declared.whole.WholeWad.{WholeWad}
 use Rattle.whole_wad.specs.Outcomes.{AreOutcomes, changes_of, clears_of, refusals_of, tables_of}
-use Rattle.whole_wad.specs.Report.{report_of}
+use Rattle.whole_wad.specs.Report.{outcomes_report}
 use Rattle.whole_wad.specs.Stop.{StopsAt}
 
 -- what is written of the WAD in which each map that gets a table, or a clear one, has it as its REJECT, or why it isn't
@@ -39,20 +39,20 @@ WritesOutcomes w outcomes report (Err (rewrite.Memory _)) = ⊤
 WritesOutcomes w outcomes report (Err fault) = written_of w outcomes ≡ Err fault
 
 -- the report on what comes of the maps
-pub record TellsAll (w : WadFile) (large : Bool) (names : List (List ℕ)) (by : Method) (choice : Refused) (spelled : Spelling) (maps : Maps) : Type 0 where
+pub record TellsAllMaps (w : WadFile) (large : Bool) (names : List (List ℕ)) (by : Method) (choice : Refused) (spelled : Spelling) (maps : Maps) : Type 0 where
   pub are : AreOutcomes w large names by choice maps.outcomes.items
-  pub report : string_bytes maps.report ≡ report_of spelled maps.outcomes.items
+  pub report : string_bytes maps.report ≡ outcomes_report spelled maps.outcomes.items
 
 -- .. or the first refusal, where that stops all
-abbrev pub Tells : WadFile → Bool → List (List ℕ) → Method → Refused → Spelling → Told → Type 0
-Tells w large names by choice spelled (told.All maps) = TellsAll w large names by choice spelled maps
-Tells w large names by choice spelled (told.Stopped refusal) = StopsAt w large by choice refusal names
+abbrev pub TellsWhole : WadFile → Bool → List (List ℕ) → Method → Refused → Spelling → Told → Type 0
+TellsWhole w large names by choice spelled (told.All maps) = TellsAllMaps w large names by choice spelled maps
+TellsWhole w large names by choice spelled (told.Stopped refusal) = StopsAt w large by choice refusal names
 
 -- the bytes, the report and the counts are those of what comes of the maps
 pub record ShowsWhole (w : WadFile) (large : Bool) (names : List (List ℕ)) (by : Method) (choice : Refused) (spelled : Spelling) (whole : WholeWad) : Type 0 where
   pub outcomes : List MapOutcome
   pub are : AreOutcomes w large names by choice outcomes
-  pub shows : ShowsOutcomes w outcomes (report_of spelled outcomes) whole
+  pub shows : ShowsOutcomes w outcomes (outcomes_report spelled outcomes) whole
 
 -- the WAD with all tables is above a limit
 pub record IsAboveLimit (w : WadFile) (large : Bool) (names : List (List ℕ)) (by : Method) (choice : Refused) (fault : RewriteFault) : Type 0 where

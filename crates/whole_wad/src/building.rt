@@ -3,9 +3,9 @@
 ghost use Rattle.std.specs.Prelude.{◌≡◌, ◌≤◌, IfErr};
 ghost use Rattle.sight_names.specs.Map.{map_of};
 ghost use Rattle.sight_names.specs.declared.names.Method.TheVariants.{Exact, Within};
-ghost use Rattle.cert_format.specs.Sizes.{sizes_of};
+ghost use Rattle.cert_format.specs.Sizes.{sizes_of_plan};
 ghost use Rattle.map_answers.specs.Sound.{HasSoundLines};
-ghost use Rattle.reject_bits.specs.Parts.{IsWhole};
+ghost use Rattle.reject_bits.specs.Parts.{IsTableWhole};
 ghost use Rattle.whole_wad.specs.Built.{AreBytes, Builds, IsOfBuilding};
 ghost use Rattle.whole_wad.specs.Sizes.{sizes_of_map};
 
@@ -32,7 +32,7 @@ pub struct Built {
 
 /// The sizes of a plan are those of its map.
 pub fn has_sizes_of_map(plan: &Plan)
-    ensures { sizes_of plan.now ≡ sizes_of_map (map_of plan.now) }
+    ensures { sizes_of_plan plan.now ≡ sizes_of_map (map_of plan.now) }
 {
     let _points = plan.points();
 }
@@ -45,7 +45,7 @@ fn are_bytes(bytes: &[u8])
 
 /// A table has as many bytes as its sectors ask, and nothing behind the last pair's bit.
 fn is_whole(table: &Table)
-    ensures whole { IsWhole table.now }
+    ensures whole { IsTableWhole table.now }
     ensures bytes { AreBytes table.now.bytes }
 {
     are_bytes(table.as_bytes());

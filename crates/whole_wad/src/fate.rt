@@ -3,7 +3,7 @@
 ghost use Rattle.std.specs.Prelude.{◌≡◌, ◌+◌, ◌≤◌, length, All, IfOk, Ok};
 ghost use Rattle.sight_names.specs.Map.{map_of};
 ghost use Rattle.wad_dir.specs.Map.{entry_names};
-ghost use Rattle.wad_dir.specs.Wad.{file_of, names_of};
+ghost use Rattle.wad_dir.specs.Wad.{file_of, names_of_lumps};
 ghost use Rattle.whole_wad.specs.Rejects.{fate_built, fate_kept, fate_refused, has_no_bit, reject_at, reject_named};
 
 use map_answers::lump_of;
@@ -32,7 +32,7 @@ pub enum Fate {
 /// The bytes of the REJECT of the map of that name, none where it is missing.
 pub fn reject_named<'a>(bytes: &'a [u8], wad: &Wad, name: &str) -> &'a [u8]
     requires inside { All (λ entry. entry.at + entry.size ≤ length bytes.now) wad.now.entries }
-    requires names { names_of (file_of bytes.now wad.now) ≡ entry_names wad.now.entries }
+    requires names { names_of_lumps (file_of bytes.now wad.now) ≡ entry_names wad.now.entries }
     ensures { result.now ≡ reject_named (file_of bytes.now wad.now) name.now }
 {
     let Ok(spot) = find_map(wad, name) else {

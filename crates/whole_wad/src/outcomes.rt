@@ -3,9 +3,9 @@
 ghost use Rattle.std.specs.Prelude.{◌≡◌, ◌+◌, ◌≤◌, length, All, IfOk, IsTrue, Ok};
 ghost use Rattle.sight_names.specs.Map.{map_of};
 ghost use Rattle.wad_dir.specs.Map.{entry_names};
-ghost use Rattle.wad_dir.specs.Wad.{file_of, names_of};
+ghost use Rattle.wad_dir.specs.Wad.{file_of, names_of_lumps};
 ghost use Rattle.wad_dir.specs.AllMaps.Maps.{is_map_name};
-ghost use Rattle.whole_wad.specs.Outcomes.{ComesOf, stop_of};
+ghost use Rattle.whole_wad.specs.Outcomes.{ComesOf, stop_of_all};
 ghost use Rattle.whole_wad.specs.Rejects.{fate_of};
 ghost use Rattle.whole_wad.specs.Tables.{Gets};
 
@@ -80,7 +80,7 @@ pub fn outcome_of<R: Threads + Sync, G: Gate + Sync>(
     hooks: &Hooks<'_, G>,
 ) -> Result<MapOutcome, Memory>
     requires inside { All (λ entry. entry.at + entry.size ≤ length bytes.now) wad.now.entries }
-    requires names { names_of (file_of bytes.now wad.now) ≡ entry_names wad.now.entries }
+    requires names { names_of_lumps (file_of bytes.now wad.now) ≡ entry_names wad.now.entries }
     requires named { IsTrue (is_map_name name.now) }
     requires workers { (1 ≤ workers) × (workers ≤ 64) }
     ensures name { IfOk result (λ outcome. outcome.name ≡ name.now) }
@@ -104,7 +104,7 @@ pub fn outcome_of<R: Threads + Sync, G: Gate + Sync>(
 
 /// The refusal of a map, where it stops all.
 pub fn stop_of(refused: Refused, made: &Result<MapTable, Status>) -> Option<Status>
-    ensures { result ≡ stop_of refused made.now }
+    ensures { result ≡ stop_of_all refused made.now }
 {
     match (refused, made) {
         (Refused::Stop, Err(refusal)) => Some(*refusal),

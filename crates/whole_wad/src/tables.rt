@@ -3,7 +3,7 @@
 ghost use Rattle.std.specs.Prelude.{◌≡◌, ◌≤◌, IfErr, IfOk, Ok};
 ghost use Rattle.sight_names.specs.Map.{map_of};
 ghost use Rattle.sight_names.specs.Sound.{LinesMeetAtEnds};
-ghost use Rattle.certificates.specs.Grammar.{IsInOrder, sizes_of};
+ghost use Rattle.certificates.specs.Grammar.{IsInOrder, sizes_of_certificate};
 ghost use Rattle.any_judge.specs.Accepted.{IsAccepted};
 ghost use Rattle.map_answers.specs.declared.sight_status.status.Status.TheVariants as status;
 ghost use Rattle.whole_wad.specs.Sizes.{sizes_of_map};
@@ -36,7 +36,7 @@ fn judged<R: Threads + Sync>(
 ) -> Result<MapTable, Status>
     requires audited { LinesMeetAtEnds (map_of plan.now) }
     requires sectors { built.table.n ≡ plan.now.sectors }
-    requires sizes { sizes_of built.cert ≡ sizes_of_map (map_of plan.now) }
+    requires sizes { sizes_of_certificate built.cert ≡ sizes_of_map (map_of plan.now) }
     requires in_order { IsInOrder built.cert }
     requires accepted { IsAccepted (map_of plan.now) built.table.bytes built.cert }
     ensures table { IfOk result (λ made. made.table ≡ built.table) }

@@ -2,11 +2,11 @@
 
 ghost use Rattle.std.specs.Prelude.{◌≡◌, ◌+◌, ◌≤◌, ◌∷◌, ◌++◌, [], length, map, All, IfOk, IsTrue, OnOk, string_bytes};
 ghost use Rattle.wad_dir.specs.Map.{entry_names};
-ghost use Rattle.wad_dir.specs.Wad.{file_of, names_of};
+ghost use Rattle.wad_dir.specs.Wad.{file_of, names_of_lumps};
 ghost use Rattle.wad_dir.specs.AllMaps.All.{HasInOrder};
-ghost use Rattle.wad_dir.specs.AllMaps.Maps.{is_map_name, maps_of};
+ghost use Rattle.wad_dir.specs.AllMaps.Maps.{is_map_name, maps_in_names};
 ghost use Rattle.whole_wad.specs.Outcomes.{changes_of, tables_of};
-ghost use Rattle.whole_wad.specs.Whole.{MakesWhole, Tells, WritesOutcomes};
+ghost use Rattle.whole_wad.specs.Whole.{MakesWhole, TellsWhole, WritesOutcomes};
 
 use crate::fate::Fate;
 use crate::hooks::Hooks;
@@ -134,10 +134,10 @@ fn tell_maps<R: Threads + Sync, G: Gate + Sync, N: Notice>(
     notice: &N,
 ) -> Result<Told, Memory>
     requires inside { All (λ entry. entry.at + entry.size ≤ length bytes.now) wad.now.entries }
-    requires names { names_of (file_of bytes.now wad.now) ≡ entry_names wad.now.entries }
+    requires names { names_of_lumps (file_of bytes.now wad.now) ≡ entry_names wad.now.entries }
     requires named { All (λ name. IsTrue (is_map_name name)) names.now }
     requires workers { (1 ≤ workers) × (workers ≤ 64) }
-    ensures { IfOk result (Tells (file_of bytes.now wad.now) large names.now method refused spelling) }
+    ensures { IfOk result (TellsWhole (file_of bytes.now wad.now) large names.now method refused spelling) }
 {
     let mut outcomes = Vec::with_capacity(alloc, names.len())?;
     let mut report = String::new(alloc);
@@ -224,7 +224,7 @@ fn count_built(outcomes: &[MapOutcome]) -> usize
 /// The WAD of what came of some of its maps, which are in order.
 fn written(alloc: Global, bytes: &[u8], wad: &Wad, maps: Maps) -> Result<WholeWad, RewriteFault>
     requires inside { All (λ entry. entry.at + entry.size ≤ length bytes.now) wad.now.entries }
-    requires among { HasInOrder (maps_of (entry_names wad.now.entries)) (map (λ (o : MapOutcome). o.name) maps.outcomes.items) }
+    requires among { HasInOrder (maps_in_names (entry_names wad.now.entries)) (map (λ (o : MapOutcome). o.name) maps.outcomes.items) }
     ensures { WritesOutcomes (file_of bytes.now wad.now) maps.outcomes.items (string_bytes maps.report) result }
 {
     let changes = changes_in(alloc, &maps.outcomes)?;
@@ -264,9 +264,9 @@ pub fn build_wad<R: Threads + Sync, G: Gate + Sync, N: Notice>(
     notice: &N,
 ) -> Result<WholeWad, Unmade>
     requires inside { All (λ entry. entry.at + entry.size ≤ length bytes.now) wad.now.entries }
-    requires names { names_of (file_of bytes.now wad.now) ≡ entry_names wad.now.entries }
+    requires names { names_of_lumps (file_of bytes.now wad.now) ≡ entry_names wad.now.entries }
     // They are some of the WAD's maps, in the order of their entries.
-    requires among { HasInOrder (maps_of (entry_names wad.now.entries)) names.now }
+    requires among { HasInOrder (maps_in_names (entry_names wad.now.entries)) names.now }
     requires workers { (1 ≤ workers) × (workers ≤ 64) }
     ensures { MakesWhole (file_of bytes.now wad.now) large names.now method refused spelling result }
 {

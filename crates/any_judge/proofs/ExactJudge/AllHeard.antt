@@ -7,20 +7,20 @@ use Rattle.cert_format.specs.declared.cert.Labelled.{Labelled}
 use Rattle.certificates.specs.declared.cert_exact.cert.ExactParts.{ExactParts}
 use Rattle.certificates.specs.declared.exact_parts.part.Part.{Part}
 use Rattle.certificates.specs.declared.exact_parts.part.Part.TheVariants.{Triangle, Ray, Length, Node as OfNode}
-use Rattle.certificates.specs.ExactParts.Parts.{node_parts, tree_parts, parts_of}
-use Rattle.any_judge.specs.ExactJudge.Heard.{Heard, nothing, with_part, heard_from}
+use Rattle.certificates.specs.ExactParts.Parts.{node_parts, tree_parts, parts_of_exact}
+use Rattle.any_judge.specs.ExactJudge.Heard.{ExactHeard, nothing_exact, with_exact_part, heard_from}
 use Rattle.any_judge.specs.ExactJudge.Trees.{Begun, all_begun, next_begun, many_begun, begun_all, put_node}
 use Rattle.any_judge.proofs.ExactJudge.Begun.{many_more, last_begun}
 
-pub heard_one_more : (h : Heard) (parts : List Part) (part : Part) → heard_from h (parts ++ part ∷ []) ≡ with_part (heard_from h parts) part
+pub heard_one_more : (h : ExactHeard) (parts : List Part) (part : Part) → heard_from h (parts ++ part ∷ []) ≡ with_exact_part (heard_from h parts) part
 heard_one_more h [] part = refl
-heard_one_more h (first ∷ parts) part = heard_one_more (with_part h first) parts part
+heard_one_more h (first ∷ parts) part = heard_one_more (with_exact_part h first) parts part
 
-pub heard_both : (h : Heard) (parts more : List Part) → heard_from h (parts ++ more) ≡ heard_from (heard_from h parts) more
+pub heard_both : (h : ExactHeard) (parts more : List Part) → heard_from h (parts ++ more) ≡ heard_from (heard_from h parts) more
 heard_both h [] more = refl
-heard_both h (part ∷ parts) more = heard_both (with_part h part) parts more
+heard_both h (part ∷ parts) more = heard_both (with_exact_part h part) parts more
 
-abbrev made : List Labelled → Bool → List PairRay → Begun → Heard
+abbrev made : List Labelled → Bool → List PairRay → Begun → ExactHeard
 made ts closed rs b = record { triangles = ts; closed = closed; rays = rs; trees = b }
 
 triangles_heard : (ts ls : List Labelled) (rs : List PairRay) (b : Begun) → heard_from (made ts false rs b) (map (λ t. Triangle t) ls) ≡ made (ts ++ ls) false rs b
@@ -53,7 +53,7 @@ rest_heard closed ts rs front f done (n ∷ ns) e =
     ∙ ap (λ (us : List Node). made ts true rs (front, Some us)) (append_assoc done (n ∷ []) ns)
 
 -- as many trees as were to come
-record NodesHeard (ts : List Labelled) (rs : List PairRay) (count : ℕ) (trees : List (List Node)) (h : Heard) : Type 0 where
+record NodesHeard (ts : List Labelled) (rs : List PairRay) (count : ℕ) (trees : List (List Node)) (h : ExactHeard) : Type 0 where
   closed : Bool
   begun : Begun
   is : h ≡ made ts closed rs begun
@@ -91,21 +91,21 @@ nodes_heard closed ts rs b f ((n ∷ ns) ∷ trees) le =
     record {
       closed = h.closed;
       begun = h.begun;
-      is = heard_both (made ts closed rs b) (node_parts f (n ∷ ns)) (tree_parts (suc f) trees) ∙ ap (λ (g : Heard). heard_from g (tree_parts (suc f) trees)) first ∙ h.is;
+      is = heard_both (made ts closed rs b) (node_parts f (n ∷ ns)) (tree_parts (suc f) trees) ∙ ap (λ (g : ExactHeard). heard_from g (tree_parts (suc f) trees)) first ∙ h.is;
       all = ap (λ (k : ℕ). all_begun (begun_all k h.begun)) same ∙ h.all ∙ ap (λ (c : Begun). all_begun c ++ trees) (none_more (suc f) open_ as_many) ∙ append_assoc front ((n ∷ ns) ∷ []) trees;
     }
 
 -- what was heard is the whole of the certificate
-pub record IsAllOf (c : ExactParts) (h : Heard) : Type 0 where
+pub record IsAllOf (c : ExactParts) (h : ExactHeard) : Type 0 where
   pub triangles : h.triangles ≡ c.triangles
   pub rays : h.rays ≡ c.rays
   pub trees : all_begun (begun_all (length c.trees) h.trees) ≡ c.trees
 
-pub all_heard : (c : ExactParts) → IsAllOf c (heard_from nothing (parts_of c))
+pub all_heard : (c : ExactParts) → IsAllOf c (heard_from nothing_exact (parts_of_exact c))
 all_heard c = record {
-  triangles = ap (λ (h : Heard). h.triangles) all;
-  rays = ap (λ (h : Heard). h.rays) all;
-  trees = ap (λ (h : Heard). all_begun (begun_all (length c.trees) h.trees)) all ∙ (let same : length c.trees ≡ 0 + length c.trees = omega arith in ap (λ (n : ℕ). all_begun (begun_all n nodes.begun)) same) ∙ nodes.all;
+  triangles = ap (λ (h : ExactHeard). h.triangles) all;
+  rays = ap (λ (h : ExactHeard). h.rays) all;
+  trees = ap (λ (h : ExactHeard). all_begun (begun_all (length c.trees) h.trees)) all ∙ (let same : length c.trees ≡ 0 + length c.trees = omega arith in ap (λ (n : ℕ). all_begun (begun_all n nodes.begun)) same) ∙ nodes.all;
 }
   where
     no_trees : Begun
@@ -117,16 +117,16 @@ all_heard c = record {
     nodes : NodesHeard c.triangles c.rays (0 + length c.trees) c.trees (heard_from (made c.triangles lengths.0 c.rays no_trees) (tree_parts 0 c.trees))
     nodes = nodes_heard lengths.0 c.triangles c.rays no_trees 0 c.trees (omega arith)
 
-    all : heard_from nothing (parts_of c) ≡ made c.triangles nodes.closed c.rays nodes.begun
-    all = heard_both nothing (map (λ t. Triangle t) c.triangles) (map (λ r. Ray r) c.rays ++ (map (λ (ns : List Node). Length) c.trees ++ tree_parts 0 c.trees))
-        ∙ ap (λ (h : Heard). heard_from h (map (λ r. Ray r) c.rays ++ (map (λ (ns : List Node). Length) c.trees ++ tree_parts 0 c.trees))) (triangles_heard [] c.triangles [] no_trees)
+    all : heard_from nothing_exact (parts_of_exact c) ≡ made c.triangles nodes.closed c.rays nodes.begun
+    all = heard_both nothing_exact (map (λ t. Triangle t) c.triangles) (map (λ r. Ray r) c.rays ++ (map (λ (ns : List Node). Length) c.trees ++ tree_parts 0 c.trees))
+        ∙ ap (λ (h : ExactHeard). heard_from h (map (λ r. Ray r) c.rays ++ (map (λ (ns : List Node). Length) c.trees ++ tree_parts 0 c.trees))) (triangles_heard [] c.triangles [] no_trees)
         ∙ heard_both (made c.triangles false [] no_trees) (map (λ r. Ray r) c.rays) (map (λ (ns : List Node). Length) c.trees ++ tree_parts 0 c.trees)
-        ∙ ap (λ (h : Heard). heard_from h (map (λ (ns : List Node). Length) c.trees ++ tree_parts 0 c.trees)) (rays_heard c.triangles [] c.rays no_trees)
+        ∙ ap (λ (h : ExactHeard). heard_from h (map (λ (ns : List Node). Length) c.trees ++ tree_parts 0 c.trees)) (rays_heard c.triangles [] c.rays no_trees)
         ∙ heard_both (made c.triangles false c.rays no_trees) (map (λ (ns : List Node). Length) c.trees) (tree_parts 0 c.trees)
-        ∙ ap (λ (h : Heard). heard_from h (tree_parts 0 c.trees)) lengths.1
+        ∙ ap (λ (h : ExactHeard). heard_from h (tree_parts 0 c.trees)) lengths.1
         ∙ nodes.is
 
 -- nodes change the trees alone
-pub same_but_trees : (h : Heard) (f : ℕ) (ns : List Node) → ((heard_from h (node_parts f ns)).triangles ≡ h.triangles) × ((heard_from h (node_parts f ns)).rays ≡ h.rays)
+pub same_but_trees : (h : ExactHeard) (f : ℕ) (ns : List Node) → ((heard_from h (node_parts f ns)).triangles ≡ h.triangles) × ((heard_from h (node_parts f ns)).rays ≡ h.rays)
 same_but_trees h f [] = (refl, refl)
-same_but_trees h f (n ∷ ns) = same_but_trees (with_part h (OfNode f n)) f ns
+same_but_trees h f (n ∷ ns) = same_but_trees (with_exact_part h (OfNode f n)) f ns

@@ -5,7 +5,7 @@ use Rattle.std.specs.Prelude.{option_map}
 use Rattle.std.proofs.lemmas.List.{append-nil, length-append}
 use Rattle.block_evidence.specs.declared.sight_tree.Node.{Node}
 use Rattle.any_judge.specs.declared.exact_judge.ground.Ground.{Ground}
-use Rattle.any_judge.specs.ExactJudge.Trees.{Begun, all_begun, one_node, next_begun, many_begun, begun_all, AreCounted}
+use Rattle.any_judge.specs.ExactJudge.Trees.{Begun, all_begun, one_node, next_begun, many_begun, begun_all, AreTreesCountable}
 
 -- ---- how many
 
@@ -45,24 +45,24 @@ short_less [] ns n h = (omega (arith, h.0, length-append ns (n ∷ [])), tt)
 short_less (x ∷ front) ns n h = (h.0, short_less front ns n h.1)
 
 module _ (g : Ground) where
-  pub counted_before : (b : Begun) → AreCounted g (next_begun b) → AreCounted g b
+  pub counted_before : (b : Begun) → AreTreesCountable g (next_begun b) → AreTreesCountable g b
   counted_before b c = record { few = omega (arith, c.few, one_more b); nodes = short_front (all_begun b) ([] ∷ []) c.nodes }
 
-  pub counted_none : (b : Begun) → AreCounted g (next_begun b) → AreCounted g (all_begun b, None)
+  pub counted_none : (b : Begun) → AreTreesCountable g (next_begun b) → AreTreesCountable g (all_begun b, None)
   counted_none b c =
       let h = counted_before b c in
       record { few = omega (arith, h.few, ap length (append-nil (all_begun b))); nodes = subst AreShort (sym (append-nil (all_begun b))) h.nodes }
 
-  pub counted_many : (k : ℕ) (b : Begun) → AreCounted g (many_begun k b) → AreCounted g b
+  pub counted_many : (k : ℕ) (b : Begun) → AreTreesCountable g (many_begun k b) → AreTreesCountable g b
   counted_many zero b c = c
   counted_many (suc k) b c = counted_before b (counted_many k (next_begun b) c)
 
-  pub counted_ended : (b : Begun) → AreCounted g (all_begun b, None) → AreCounted g b
+  pub counted_ended : (b : Begun) → AreTreesCountable g (all_begun b, None) → AreTreesCountable g b
   counted_ended b c = record { few = omega (arith, c.few, ap length (append-nil (all_begun b))); nodes = subst AreShort (append-nil (all_begun b)) c.nodes }
 
-  pub counted_less : (front : List (List Node)) (o : Option (List Node)) (n : Node) → AreCounted g (front, option_map (one_node n) o) → AreCounted g (front, o)
+  pub counted_less : (front : List (List Node)) (o : Option (List Node)) (n : Node) → AreTreesCountable g (front, option_map (one_node n) o) → AreTreesCountable g (front, o)
   counted_less front None n c = c
   counted_less front (Some ns) n c = record { few = omega (arith, c.few, length-append front ((ns ++ n ∷ []) ∷ []), length-append front (ns ∷ [])); nodes = short_less front ns n c.nodes }
 
-  pub last_counted : (front : List (List Node)) (ns : List Node) → AreCounted g (front, Some ns) → length ns < 2 ^ 64
+  pub last_counted : (front : List (List Node)) (ns : List Node) → AreTreesCountable g (front, Some ns) → length ns < 2 ^ 64
   last_counted front ns c = short_last front ns c.nodes

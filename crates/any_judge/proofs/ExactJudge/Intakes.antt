@@ -7,7 +7,7 @@ use Rattle.sight_names.specs.Plan.{PlanParts}
 use Rattle.block_evidence.specs.declared.sight_tree.Node.{Node}
 use Rattle.reject_bits.specs.Parts.{TableParts}
 use Rattle.cert_format.specs.Grammar.{FitsTree}
-use Rattle.cert_format.specs.Sizes.{sizes_of}
+use Rattle.cert_format.specs.Sizes.{sizes_of_plan}
 use Rattle.cert_format.proofs.FieldLaws.{IsBytes, bind_ok, ok_is}
 use Rattle.certificates.specs.declared.cert_exact.cert.ExactParts.{ExactParts}
 use Rattle.certificates.specs.CertExact.Grammar.{SpellsThree, trees_from}
@@ -25,14 +25,14 @@ use Rattle.certificates.proofs.ExactParts.Stretches.{nodes_behind, reads_front, 
 use Rattle.any_judge.specs.declared.exact_judge.intake.Intake.{Intake}
 use Rattle.any_judge.specs.ExactJudge.Heard.{Groups}
 use Rattle.any_judge.specs.ExactJudge.Judging.{HasHeard, HasHeardAll, IsCertOf}
-use Rattle.any_judge.specs.ExactJudge.Intake.{put_all, IsGoingOn, AreRefused}
+use Rattle.any_judge.specs.ExactJudge.Intake.{put_exact_parts, IsGoingOn, AreRefusedExact}
 
 -- ---- parts, one behind the other
 
 abbrev all_read : Groups → List Part → Result ThreeParts CertFault
 all_read groups parts = Ok (groups, parts)
 
-put_one_more : (groups : Groups) (parts : List Part) (part : Part) (left : Result (List Part) CertFault) → put_all groups (parts ++ part ∷ []) left ≡ put_all groups parts (put_before (Some part) left)
+put_one_more : (groups : Groups) (parts : List Part) (part : Part) (left : Result (List Part) CertFault) → put_exact_parts groups (parts ++ part ∷ []) left ≡ put_exact_parts groups parts (put_before (Some part) left)
 put_one_more groups parts part (Ok others) = ap (all_read groups) (append_assoc parts (part ∷ []) others)
 put_one_more groups parts part (Err f) = refl
 
@@ -47,7 +47,7 @@ module _ (p : PlanParts) (t : TableParts) (bytes rest : List ℕ) (k : Intake) (
     parts = w.parts ++ part ∷ [];
     heard = heard;
     given = given ∙ w.given;
-    left = λ more. w.left more ∙ ap (put_all w.groups w.parts) (told more) ∙ sym (put_one_more w.groups w.parts part (parts_left new.reader (behind ++ more)));
+    left = λ more. w.left more ∙ ap (put_exact_parts w.groups w.parts) (told more) ∙ sym (put_one_more w.groups w.parts part (parts_left new.reader (behind ++ more)));
   }
 
   -- or all bytes were taken
@@ -59,16 +59,16 @@ module _ (p : PlanParts) (t : TableParts) (bytes rest : List ℕ) (k : Intake) (
     parts = w.parts;
     heard = subst (HasHeard p t w.groups w.parts) (sym same) w.heard;
     given = ap (λ (b : List ℕ). new.reader.given + length b) (sym none) ∙ given ∙ w.given;
-    left = λ more. w.left more ∙ ap (put_all w.groups w.parts) (told more ∙ ap (λ (b : List ℕ). parts_left new.reader (b ++ more)) none);
+    left = λ more. w.left more ∙ ap (put_exact_parts w.groups w.parts) (told more ∙ ap (λ (b : List ℕ). parts_left new.reader (b ++ more)) none);
   }
 
   -- or a fault was met
-  pub fault_taken : (f : CertFault) → ((more : List ℕ) → parts_left k.reader (rest ++ more) ≡ Err f) → AreRefused p bytes f
-  fault_taken f told more = w.left more ∙ ap (put_all w.groups w.parts) (told more)
+  pub fault_taken : (f : CertFault) → ((more : List ℕ) → parts_left k.reader (rest ++ more) ≡ Err f) → AreRefusedExact p bytes f
+  fault_taken f told more = w.left more ∙ ap (put_exact_parts w.groups w.parts) (told more)
 
 -- ---- nodes of a tree, one behind the other
 
-put_both : (groups : Groups) (parts more : List Part) (left : Result (List Part) CertFault) → put_all groups parts (put_behind more left) ≡ put_all groups (parts ++ more) left
+put_both : (groups : Groups) (parts more : List Part) (left : Result (List Part) CertFault) → put_exact_parts groups parts (put_behind more left) ≡ put_exact_parts groups (parts ++ more) left
 put_both groups parts more (Ok others) = ap (all_read groups) (sym (append_assoc parts more others))
 put_both groups parts more (Err f) = refl
 
@@ -83,7 +83,7 @@ module _ (p : PlanParts) (t : TableParts) (bytes ahead : List ℕ) (k : Intake) 
     parts = w.parts ++ node_parts k.reader.trees.source ns;
     heard = heard;
     given = omega (arith, given, within, w.given, ap length split, length-append here back, ap length rest_is, length-append rest back);
-    left = λ more. w.left more ∙ ap (put_all w.groups w.parts) (told more) ∙ put_both w.groups w.parts (node_parts k.reader.trees.source ns) (parts_left new.reader (behind ++ more));
+    left = λ more. w.left more ∙ ap (put_exact_parts w.groups w.parts) (told more) ∙ put_both w.groups w.parts (node_parts k.reader.trees.source ns) (parts_left new.reader (behind ++ more));
   }
     where
       used : ℕ
@@ -120,14 +120,14 @@ piece_comes p t bytes piece k fit w = record {
   parts = w.parts;
   heard = w.heard;
   given = omega (arith, w.given, length-append bytes piece);
-  left = λ more. ap (reading_three_parts (sizes_of p)) (append_assoc bytes piece more) ∙ w.left (piece ++ more);
+  left = λ more. ap (reading_three_parts (sizes_of_plan p)) (append_assoc bytes piece more) ∙ w.left (piece ++ more);
 }
 
 -- ---- at the end
 
 -- what is said whatever bytes come is said of these
-pub refused_whole : (p : PlanParts) (bytes : List ℕ) (f : CertFault) → AreRefused p bytes f → reading_three_parts (sizes_of p) bytes ≡ Err f
-refused_whole p bytes f w = ap (reading_three_parts (sizes_of p)) (sym (append-nil bytes)) ∙ w []
+pub refused_whole : (p : PlanParts) (bytes : List ℕ) (f : CertFault) → AreRefusedExact p bytes f → reading_three_parts (sizes_of_plan p) bytes ≡ Err f
+refused_whole p bytes f w = ap (reading_three_parts (sizes_of_plan p)) (sym (append-nil bytes)) ∙ w []
 
 -- there is but one plan and one table
 pub same_fits : (p q : PlanParts) (t u : TableParts) (bytes others : List ℕ) (k : Intake) → IsGoingOn p t bytes [] k → IsGoingOn q u others [] k → u.n ≡ q.sectors → t.n ≡ p.sectors
@@ -140,29 +140,29 @@ counted f [] fit = tt
 counted f (ns ∷ trees) fit = (fit.0.count, counted (suc f) trees fit.1)
 
 -- what is read is a certificate of the plan, in order
-cert_of_plan : (p : PlanParts) (t : TableParts) (bytes : List ℕ) (c : ExactParts) → t.n ≡ p.sectors → SpellsThree (sizes_of p) bytes c → IsCertOf p t c
+cert_of_plan : (p : PlanParts) (t : TableParts) (bytes : List ℕ) (c : ExactParts) → t.n ≡ p.sectors → SpellsThree (sizes_of_plan p) bytes c → IsCertOf p t c
 cert_of_plan p t bytes c fits s = record {
-  cert = record { two = record { sizes = sizes_of p; in_order = s.in_order; sectors = refl; points = refl; lines = refl }; one_each = s.one_each };
+  cert = record { two = record { sizes = sizes_of_plan p; in_order = s.in_order; sectors = refl; points = refl; lines = refl }; one_each = s.one_each };
   table = fits;
   counted = counted 0 c.trees s.fits.trees;
 }
 
 module _ (p : PlanParts) (t : TableParts) (bytes : List ℕ) (k : Intake) (w : IsGoingOn p t bytes [] k) where
-  whole : reading_three_parts (sizes_of p) bytes ≡ put_all w.groups w.parts (parts_left k.reader [])
-  whole = ap (reading_three_parts (sizes_of p)) (sym (append-nil bytes)) ∙ w.left []
+  whole : reading_three_parts (sizes_of_plan p) bytes ≡ put_exact_parts w.groups w.parts (parts_left k.reader [])
+  whole = ap (reading_three_parts (sizes_of_plan p)) (sym (append-nil bytes)) ∙ w.left []
 
   -- a fault at the end is that of the reading
-  pub fault_at_end : (f : CertFault) → parts_left k.reader [] ≡ Err f → reading_three_parts (sizes_of p) bytes ≡ Err f
-  fault_at_end f e = whole ∙ ap (put_all w.groups w.parts) e
+  pub fault_at_end : (f : CertFault) → parts_left k.reader [] ≡ Err f → reading_three_parts (sizes_of_plan p) bytes ≡ Err f
+  fault_at_end f e = whole ∙ ap (put_exact_parts w.groups w.parts) e
 
   -- the certificate that was read was heard
-  pub read_at_end : t.n ≡ p.sectors → parts_left k.reader [] ≡ Ok [] → (c : ExactParts) × (exact_at (sizes_of p) bytes ≡ Ok c) × HasHeardAll p t c k.judging
+  pub read_at_end : t.n ≡ p.sectors → parts_left k.reader [] ≡ Ok [] → (c : ExactParts) × (exact_at (sizes_of_plan p) bytes ≡ Ok c) × HasHeardAll p t c k.judging
   read_at_end fits e =
-      let r = bind_ok (exact_at (sizes_of p) bytes) (λ c. Ok (three_parts_of c)) (w.groups, w.parts) (whole ∙ ap (put_all w.groups w.parts) e ∙ ap (all_read w.groups) (append-nil w.parts)) in (
+      let r = bind_ok (exact_at (sizes_of_plan p) bytes) (λ c. Ok (three_parts_of c)) (w.groups, w.parts) (whole ∙ ap (put_exact_parts w.groups w.parts) e ∙ ap (all_read w.groups) (append-nil w.parts)) in (
         r.0,
         r.1,
         record {
-          cert = cert_of_plan p t bytes r.0 fits (exact_takes (sizes_of p) bytes r.0 w.small w.fit r.1);
+          cert = cert_of_plan p t bytes r.0 fits (exact_takes (sizes_of_plan p) bytes r.0 w.small w.fit r.1);
           heard = subst (λ (ps : ThreeParts). HasHeard p t ps.0 ps.1 k.judging) (sym (ok_is (three_parts_of r.0) (w.groups, w.parts) r.2)) w.heard;
         },
       )

@@ -9,7 +9,7 @@ use Rattle.any_judge.specs.declared.judge.Judge.{Judge}
 use Rattle.any_judge.specs.Judge.{HasBeenFed}
 
 -- it was fed nothing so far
-pub record IsFresh (j : Judge) : Type 0 where
+pub record IsJudgeFresh (j : Judge) : Type 0 where
   pub plan : PlanParts
   pub table : TableParts
   pub fed : HasBeenFed plan table [] j

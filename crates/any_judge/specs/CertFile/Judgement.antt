@@ -5,7 +5,7 @@ use Rattle.sight_names.specs.declared.faults.FetchFault.TheVariants as fetch
 use Rattle.sight_names.specs.Map.{map_of}
 use Rattle.sight_names.specs.Plan.{PlanParts}
 use Rattle.reject_bits.specs.Parts.{TableParts}
-use Rattle.cert_format.specs.Sizes.{sizes_of}
+use Rattle.cert_format.specs.Sizes.{sizes_of_plan}
 use Rattle.certificates.specs.declared.certificate.Certificate.{Certificate}
 use Rattle.certificates.specs.Reading.{certificate_at}
 use Rattle.group_checker.specs.declared.verdict.AnyVerdict.{AnyVerdict}
@@ -24,7 +24,7 @@ pub record IsJudged (p : PlanParts) (table : TableParts) (cert : Certificate) (v
 
 -- the verdict by the certificate that the bytes spell for the plan, or the first fault where they spell none
 abbrev pub IsJudgement : PlanParts → TableParts → List ℕ → Judged → Type 0
-IsJudgement p table bytes given = JudgedBy (certificate_at (sizes_of p) bytes) (IsJudged p table) given
+IsJudgement p table bytes given = JudgedBy (certificate_at (sizes_of_plan p) bytes) (IsJudged p table) given
 
 -- the content is these bytes, and this is what they give
 pub record JudgesContent (p : PlanParts) (table : TableParts) (given : Judged) (content : Result (List ℕ) FetchFault) : Type 0 where

@@ -6,13 +6,13 @@ use Rattle.sight_names.specs.Mesh.{IsGoodMesh}
 use Rattle.sight_names.specs.Plan.{PlanParts, IsPlan}
 use Rattle.mesh_shape.specs.declared.half_edges.table.HalfEdge.{HalfEdge}
 use Rattle.mesh_shape.specs.HalfEdges.HalfEdges.{AreHalfEdges}
-use Rattle.cert_checker.specs.TreeJudge.Roots.{AreRoots}
+use Rattle.cert_checker.specs.TreeJudge.Roots.{AreRootChains}
 use Rattle.face_groups.specs.TriSectors.Components.{AreComponents}
 use Rattle.cert_format.specs.Accepted.{triangles_of, labels_of}
 use Rattle.certificates.specs.declared.cert_exact.cert.ExactParts.{ExactParts}
 use Rattle.certificates.specs.CertExact.Grammar.{as_two}
-use Rattle.gate_floods.specs.Exact.{IsClaimed}
-use Rattle.gate_floods.specs.RowJudge.Laws.{AreMasks}
+use Rattle.gate_floods.specs.Exact.{IsClaimedBlind}
+use Rattle.gate_floods.specs.RowJudge.Laws.{AreHalfEdgeMasks}
 use Rattle.gate_floods.specs.RowJudge.Masks.{MaskRows}
 use Rattle.exact_checker.specs.Owning.{OwningParts, IsSized, KnowsOwning}
 use Rattle.any_judge.specs.declared.exact_judge.ground.Ground.{Ground}
@@ -29,7 +29,7 @@ pub record IsSizedGround (g : Ground) : Type 0 where
   pub room : g.count ≤ 64 * g.masks.width
 
 -- triangles and half-edges are those of the certificate, whose triangles are a good mesh of its map of groups
-pub record IsOver (c : ExactParts) (p : PlanParts) (ts : List Triangle) (xs : List HalfEdge) : Type 0 where
+pub record IsMeshOver (c : ExactParts) (p : PlanParts) (ts : List Triangle) (xs : List HalfEdge) : Type 0 where
   pub plan : IsPlan p
   pub sectors : p.sectors ≡ length c.groups
   pub triangles : ts ≡ triangles_of (as_two c).cert
@@ -37,10 +37,10 @@ pub record IsOver (c : ExactParts) (p : PlanParts) (ts : List Triangle) (xs : Li
   pub edges : AreHalfEdges p (triangles_of (as_two c).cert) (labels_of (as_two c).cert) xs
 
 -- and so are roots, masks, components, ranks and rows
-pub record IsGroundOf (p : PlanParts) (c : ExactParts) (g : Ground) : Type 0 where
-  pub over : IsOver c p (triangles_of (as_two c).cert) g.edges
+pub record IsExactGroundOf (p : PlanParts) (c : ExactParts) (g : Ground) : Type 0 where
+  pub over : IsMeshOver c p (triangles_of (as_two c).cert) g.edges
   pub count : g.count ≡ p.sectors
-  pub roots : AreRoots (map_of p) (triangles_of (as_two c).cert) g.edges g.roots.roots.items g.roots.first.items
-  pub masks : AreMasks (map_of p) (IsClaimed (map_of p) (as_two c).cert) g.edges (masks_in g)
+  pub roots : AreRootChains (map_of p) (triangles_of (as_two c).cert) g.edges g.roots.roots.items g.roots.first.items
+  pub masks : AreHalfEdgeMasks (map_of p) (IsClaimedBlind (map_of p) (as_two c).cert) g.edges (masks_in g)
   pub components : AreComponents (map_of p) g.components.items
   pub knows : KnowsOwning c.rays (owning_in g)

@@ -7,6 +7,6 @@ use Rattle.exact_checker.specs.Judged.{JudgesThree}
 use Rattle.any_judge.specs.ExactJudge.Judging.{IsCertOf}
 
 -- it is the verdict of a check of this certificate
-pub record IsVerdictOf (p : PlanParts) (t : TableParts) (c : ExactParts) (v : AnyVerdict) : Type 0 where
+pub record IsVerdictOfExact (p : PlanParts) (t : TableParts) (c : ExactParts) (v : AnyVerdict) : Type 0 where
   pub cert : IsCertOf p t c
   pub judges : JudgesThree p t c v

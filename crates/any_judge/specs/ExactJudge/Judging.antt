@@ -5,15 +5,15 @@ use Rattle.sight_names.specs.Plan.{PlanParts}
 use Rattle.block_evidence.specs.declared.sight_tree.Node.{Node}
 use Rattle.certificates.specs.declared.cert_exact.cert.ExactParts.{ExactParts}
 use Rattle.certificates.specs.declared.exact_parts.part.Part.{Part}
-use Rattle.certificates.specs.ExactParts.Parts.{parts_of}
+use Rattle.certificates.specs.ExactParts.Parts.{parts_of_exact}
 use Rattle.reject_bits.specs.Parts.{TableParts}
 use Rattle.exact_checker.specs.Judged.{IsThreeFor}
 use Rattle.any_judge.specs.declared.exact_judge.judging.Judging.{Judging}
-use Rattle.any_judge.specs.ExactJudge.Heard.{Groups, Heard, nothing, heard_from}
+use Rattle.any_judge.specs.ExactJudge.Heard.{Groups, ExactHeard, nothing_exact, heard_from}
 use Rattle.any_judge.specs.ExactJudge.Stage.{IsStage}
 
 -- it was made for this plan, this table and these groups; what is kept is what was heard, judged as far as it goes
-pub record IsKept (p : PlanParts) (t : TableParts) (groups : Groups) (h : Heard) (j : Judging) : Type 0 where
+pub record KeepsExactHeard (p : PlanParts) (t : TableParts) (groups : Groups) (h : ExactHeard) (j : Judging) : Type 0 where
   pub plan : j.plan.now ≡ p
   pub table : j.table.now ≡ t
   pub groups_are : j.groups ≡ groups
@@ -22,7 +22,7 @@ pub record IsKept (p : PlanParts) (t : TableParts) (groups : Groups) (h : Heard)
   pub stage : IsStage p groups h j.stage
 
 abbrev pub HasHeard : PlanParts → TableParts → Groups → List Part → Judging → Type 0
-HasHeard p t groups parts j = IsKept p t groups (heard_from nothing parts) j
+HasHeard p t groups parts j = KeepsExactHeard p t groups (heard_from nothing_exact parts) j
 
 -- a certificate in order, of a plan and a table, whose nodes can be counted
 pub record IsCertOf (p : PlanParts) (t : TableParts) (c : ExactParts) : Type 0 where
@@ -33,10 +33,10 @@ pub record IsCertOf (p : PlanParts) (t : TableParts) (c : ExactParts) : Type 0 w
 -- groups and parts are all those of this certificate, which is one of the plan and in order
 pub record HasHeardAll (p : PlanParts) (t : TableParts) (c : ExactParts) (j : Judging) : Type 0 where
   pub cert : IsCertOf p t c
-  pub heard : HasHeard p t c.groups (parts_of c) j
+  pub heard : HasHeard p t c.groups (parts_of_exact c) j
 
 -- the parts are all those of some certificate
-pub record IsComplete (j : Judging) : Type 0 where
+pub record IsExactComplete (j : Judging) : Type 0 where
   pub plan : PlanParts
   pub table : TableParts
   pub cert : ExactParts

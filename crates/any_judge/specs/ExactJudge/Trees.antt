@@ -4,7 +4,7 @@ use Rattle.std.specs.List.{AllByRecursion}
 use Rattle.std.specs.Option.{option_to_list}
 use Rattle.sight_names.specs.declared.names.PairRay.{PairRay}
 use Rattle.block_evidence.specs.declared.sight_tree.Node.{Node}
-use Rattle.gate_floods.specs.RowJudge.Judged.{tree_of, IsWalked, TellsTree}
+use Rattle.gate_floods.specs.RowJudge.Judged.{tree_with, IsTreeWalkedInRow, TellsTree}
 use Rattle.gate_floods.specs.RowJudge.Words.{AreBitsOf}
 use Rattle.exact_checker.specs.declared.trees.WrongNode.{WrongNode}
 use Rattle.exact_checker.specs.Owning.{IsOwnedBit, KnowsOwning}
@@ -52,55 +52,55 @@ heard_nodes f (n ∷ ns) b = heard_nodes f ns (at_source f n b)
 
 module _ (g : Ground) where
   -- the row is that of what the group owns
-  abbrev pub IsOwnRow : ℕ → List ℕ → Type 0
-  IsOwnRow f row = (rays : List PairRay) → KnowsOwning rays (owning_in g) → AreBitsOf row (IsOwnedBit rays g.components.items g.count f)
+  abbrev pub IsOwnedRow : ℕ → List ℕ → Type 0
+  IsOwnedRow f row = (rays : List PairRay) → KnowsOwning rays (owning_in g) → AreBitsOf row (IsOwnedBit rays g.components.items g.count f)
 
   -- what the nodes of a group's tree answer, with a row of what the group owns
-  pub record IsTold (f : ℕ) (ns : List Node) (o : Option ℕ) : Type 0 where
+  pub record IsTreeTold (f : ℕ) (ns : List Node) (o : Option ℕ) : Type 0 where
     pub row : List ℕ
-    pub own : IsOwnRow f row
-    pub tells : TellsTree g.edges (masks_in g) row g.roots.roots.items g.roots.first.items (tree_of f ns) o
+    pub own : IsOwnedRow f row
+    pub tells : TellsTree g.edges (masks_in g) row g.roots.roots.items g.roots.first.items (tree_with f ns) o
 
   -- the first trees answer for all that is asked
-  abbrev pub AreTold : List (List Node) → ℕ → Type 0
-  AreTold trees m = (f : ℕ) (ns : List Node) → f < m → slice_get trees f ≡ Some ns → IsTold f ns None
+  abbrev pub AreTreesTold : List (List Node) → ℕ → Type 0
+  AreTreesTold trees m = (f : ℕ) (ns : List Node) → f < m → slice_get trees f ≡ Some ns → IsTreeTold f ns None
 
   -- this is the first wrong node of the first wrong tree, whatever nodes come behind those of the open one
   pub record IsWrongIn (b : Begun) (w : WrongNode) : Type 0 where
     pub nodes : List Node
     pub there : slice_get (all_begun b) w.source ≡ Some nodes
-    pub told : IsTold w.source nodes (Some w.node)
-    pub before : AreTold (all_begun b) w.source
+    pub told : IsTreeTold w.source nodes (Some w.node)
+    pub before : AreTreesTold (all_begun b) w.source
     pub ended : (w.source < length b.0) ⊎ (w.node < length nodes)
 
 -- all trees that have ended answer, and the walk has followed the open one
-pub record IsFollowed (front : List (List Node)) (ns : List Node) (j : RowTrees) : Type 0 where
+pub record IsOpenTreeFollowed (front : List (List Node)) (ns : List Node) (j : RowTrees) : Type 0 where
   pub going : j.under_way ≡ true
   pub begun : j.begun ≡ length front + 1
   pub source : j.source ≡ length front
-  pub told : AreTold j.ground front (length front)
+  pub told : AreTreesTold j.ground front (length front)
   pub row : List ℕ
-  pub own : IsOwnRow j.ground (length front) row
-  pub walked : IsWalked j.ground.edges (masks_in j.ground) row j.ground.roots.roots.items j.ground.roots.first.items (tree_of (length front) ns) j.walk
+  pub own : IsOwnedRow j.ground (length front) row
+  pub walked : IsTreeWalkedInRow j.ground.edges (masks_in j.ground) row j.ground.roots.roots.items j.ground.roots.first.items (tree_with (length front) ns) j.walk
   pub number : j.nodes ≡ length ns
 
 pub record AreEnded (front : List (List Node)) (j : RowTrees) : Type 0 where
   pub going : j.under_way ≡ false
   pub begun : j.begun ≡ length front
-  pub told : AreTold j.ground front (length front)
+  pub told : AreTreesTold j.ground front (length front)
 
 -- by the wrong node that was found, if one was, and the open tree, if there is one
-abbrev pub IsJudged : Begun → Option WrongNode → RowTrees → Type 0
-IsJudged b (Some w) j = (j.under_way ≡ false) × IsWrongIn j.ground b w
-IsJudged (front, None) None j = AreEnded front j
-IsJudged (front, Some ns) None j = IsFollowed front ns j
+abbrev pub IsExactTreeJudged : Begun → Option WrongNode → RowTrees → Type 0
+IsExactTreeJudged b (Some w) j = (j.under_way ≡ false) × IsWrongIn j.ground b w
+IsExactTreeJudged (front, None) None j = AreEnded front j
+IsExactTreeJudged (front, Some ns) None j = IsOpenTreeFollowed front ns j
 
 -- there are no more trees than groups, and their nodes can be counted
-pub record AreCounted (g : Ground) (b : Begun) : Type 0 where
+pub record AreTreesCountable (g : Ground) (b : Begun) : Type 0 where
   pub few : length (all_begun b) ≤ g.count
   pub nodes : AllByRecursion (λ (ns : List Node). length ns < 2 ^ 64) (all_begun b)
 
 -- the judge has heard these trees and the nodes of the open one that have come so far
-pub record HasHeardTrees (b : Begun) (j : RowTrees) : Type 0 where
+pub record HasHeardRowTrees (b : Begun) (j : RowTrees) : Type 0 where
   pub sized : IsSizedGround j.ground
-  pub judged : AreCounted j.ground b → IsJudged b j.wrong j
+  pub judged : AreTreesCountable j.ground b → IsExactTreeJudged b j.wrong j

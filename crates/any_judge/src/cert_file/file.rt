@@ -7,7 +7,7 @@ ghost use Rattle.sight_names.specs.Plan.{PlanParts};
 ghost use Rattle.shelf_io.specs.Shelf.{Files, FetchCause, NoneFell, content_of};
 ghost use Rattle.reject_bits.specs.Parts.{TableParts};
 ghost use Rattle.any_judge.specs.Judge.{HasBeenFed, IsFed};
-ghost use Rattle.any_judge.specs.CertFile.Fed.{HoldsFile, IsFresh, RefusesAs};
+ghost use Rattle.any_judge.specs.CertFile.Fed.{HoldsFile, IsJudgeFresh, RefusesAs};
 ghost use Rattle.any_judge.specs.CertFile.Judgement.{IsJudgement, JudgesFile};
 
 use crate::Judge;
@@ -32,7 +32,7 @@ fn judgement_of(plan: &Plan, judge: Judge<'_>) -> Result<Judged, Memory>
 /// Feeds the file of that name to a judge that was fed nothing, in pieces to its end, or tells why it can't be read whole.
 // by itself, since each way out of a loop would have all that its function owns to drop
 fn feed_all<S: Shelf>(shelf: &mut S, name: &str, judge: &mut Judge<'_>) -> Result<(), FetchFault>
-    requires fresh { IsFresh judge.old }
+    requires fresh { IsJudgeFresh judge.old }
     ensures fed { (p : PlanParts) (t : TableParts) → HasBeenFed p t [] judge.old → IfOk result (λ _. HoldsFile p t (S.state shelf.old).files name.now judge.new) }
     ensures told { (files : Files) → (S.state shelf.old).files ≡ Some files → IfErr result (λ fault. RefusesAs fault (content_of (files name.now) 9223372036854775807)) }
     ensures files { (S.state shelf.new).files ≡ (S.state shelf.old).files }

@@ -2,10 +2,10 @@
 
 ghost use Rattle.std.specs.Prelude.{◌≡◌, ◌*◌, ◌≤◌, ◌↔◌, ℕ, Some, IfOk, IsTrue, length, slice_get};
 ghost use Rattle.sight_names.specs.declared.names.PairRay.{PairRay as RayOf};
-ghost use Rattle.cert_checker.specs.Pairs.{IsWithin};
+ghost use Rattle.cert_checker.specs.Pairs.{IsPairWithin};
 ghost use Rattle.certificates.specs.declared.cert_exact.cert.ExactParts.{ExactParts as PartsOf};
 ghost use Rattle.gate_floods.specs.RowJudge.Masks.{rows_of};
-ghost use Rattle.any_judge.specs.ExactJudge.Ground.{IsGroundOf, IsOver, IsSizedGround, masks_in};
+ghost use Rattle.any_judge.specs.ExactJudge.Ground.{IsExactGroundOf, IsMeshOver, IsSizedGround, masks_in};
 
 use cert_checker::tree_judge::Roots;
 use exact_checker::{EdgeMasks, edge_masks, joined_rows, ranks_of};
@@ -38,9 +38,9 @@ impl Ground {
         rays: &[PairRay],
     ) -> Result<Ground, Memory>
         requires few { length edges ≤ 3 * 65535 }
-        requires within { (i : ℕ) (r : RayOf) → slice_get rays.now i ≡ Some r → IsWithin over.now.plan.sectors r.pair }
+        requires within { (i : ℕ) (r : RayOf) → slice_get rays.now i ≡ Some r → IsPairWithin over.now.plan.sectors r.pair }
         ensures sized { IfOk result IsSizedGround }
-        ensures ground { (c : PartsOf) → IsOver c over.now.plan over.now.mesh.triangles edges → c.rays ≡ rays.now → IfOk result (IsGroundOf over.now.plan c) }
+        ensures ground { (c : PartsOf) → IsMeshOver c over.now.plan over.now.mesh.triangles edges → c.rays ≡ rays.now → IfOk result (IsExactGroundOf over.now.plan c) }
     {
         let plan = &over.plan;
         let joined = joined_rows(alloc, plan.sectors, rays)?;

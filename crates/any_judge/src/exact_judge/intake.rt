@@ -4,15 +4,15 @@ ghost use Rattle.std.specs.Prelude.{◌≡◌, ◌<◌, ◌≤◌, ℕ, List, []
 ghost use Rattle.sight_names.specs.Plan.{PlanParts};
 ghost use Rattle.reject_bits.specs.Parts.{TableParts};
 ghost use Rattle.sight_names.specs.declared.faults.CertFault.{CertFault as FaultOf};
-ghost use Rattle.cert_format.specs.Reading.{Fails};
-ghost use Rattle.cert_format.specs.Sizes.{sizes_of};
+ghost use Rattle.cert_format.specs.Reading.{FailsCert};
+ghost use Rattle.cert_format.specs.Sizes.{sizes_of_plan};
 ghost use Rattle.certificates.specs.CertExact.Reading.{exact_at};
 ghost use Rattle.certificates.specs.declared.exact_parts.part.Part.{Part as PartOf};
 ghost use Rattle.certificates.specs.ExactParts.Left.{IsCountable};
 ghost use Rattle.cert_judge.specs.Judged.{JudgedBy};
-ghost use Rattle.any_judge.specs.ExactJudge.Judged.{IsVerdictOf};
+ghost use Rattle.any_judge.specs.ExactJudge.Judged.{IsVerdictOfExact};
 ghost use Rattle.any_judge.specs.ExactJudge.Judging.{HasHeard};
-ghost use Rattle.any_judge.specs.ExactJudge.Intake.{IsGoingOn, HasTaken, IsTaken};
+ghost use Rattle.any_judge.specs.ExactJudge.Intake.{IsGoingOn, HasTakenExact, IsTaken};
 
 use crate::exact_judge::judging::Judging;
 use cert_format::cert_groups::Group;
@@ -33,7 +33,7 @@ pub struct Intake<'a> {
 
 /// The fault of a reading, unless memory ran out.
 fn unless_memory(fault: CertFault) -> Result<CertFault, Memory>
-    ensures { (read : Result (List PartOf) FaultOf) → Fails fault read → IfOk result (λ f. read ≡ Err f) }
+    ensures { (read : Result (List PartOf) FaultOf) → FailsCert fault read → IfOk result (λ f. read ≡ Err f) }
 {
     match fault {
         CertFault::Memory(memory) => Err(memory),
@@ -90,7 +90,7 @@ impl<'a> Intake<'a> {
         requires on { self.old.fault ≡ None }
         requires countable { IsCountable self.old.reader rest.now }
         ensures more { (p : PlanParts) (t : TableParts) (bytes : List ℕ) → IsGoingOn p t bytes rest.now self.old → IfOk result (λ o. IfSome o (λ behind. IsGoingOn p t bytes behind.now self.new)) }
-        ensures all { (p : PlanParts) (t : TableParts) (bytes : List ℕ) → IsGoingOn p t bytes rest.now self.old → IfOk result (λ o. o ≡ None → HasTaken p t bytes self.new) }
+        ensures all { (p : PlanParts) (t : TableParts) (bytes : List ℕ) → IsGoingOn p t bytes rest.now self.old → IfOk result (λ o. o ≡ None → HasTakenExact p t bytes self.new) }
         ensures still { IfOk result (λ o. IsSome o → self.new.fault ≡ None) }
         ensures countable { IfOk result (λ o. IfSome o (λ behind. IsCountable self.new.reader behind.now)) }
         ensures less { IfOk result (λ o. IfSome o (λ behind. length behind.now < length rest.now)) }
@@ -114,7 +114,7 @@ impl<'a> Intake<'a> {
     pub fn take_all(&mut self, piece: &[u8]) -> Result<(), Memory>
         requires on { self.old.fault ≡ None }
         requires countable { IsCountable self.old.reader piece.now }
-        ensures { (p : PlanParts) (t : TableParts) (bytes : List ℕ) → IsGoingOn p t bytes piece.now self.old → IfOk result (λ _. HasTaken p t bytes self.new) }
+        ensures { (p : PlanParts) (t : TableParts) (bytes : List ℕ) → IsGoingOn p t bytes piece.now self.old → IfOk result (λ _. HasTakenExact p t bytes self.new) }
     {
         let mut rest = piece;
         'rest: while let Some(behind) = self.take_one(rest)? {
@@ -126,7 +126,7 @@ impl<'a> Intake<'a> {
     /// The next piece.
     pub fn feed(&mut self, piece: &[u8]) -> Result<(), Memory>
         requires { self.old.fault ≡ None → IsCountable self.old.reader piece.now }
-        ensures { (p : PlanParts) (t : TableParts) (bytes : List ℕ) → HasTaken p t bytes self.old → IfOk result (λ _. HasTaken p t (bytes ++ piece.now) self.new) }
+        ensures { (p : PlanParts) (t : TableParts) (bytes : List ℕ) → HasTakenExact p t bytes self.old → IfOk result (λ _. HasTakenExact p t (bytes ++ piece.now) self.new) }
     {
         if self.fault.is_some() {
             return Ok(());
@@ -137,7 +137,7 @@ impl<'a> Intake<'a> {
     /// What comes of all bytes.
     pub fn end(self) -> Result<Judged, Memory>
         requires { IsTaken self }
-        ensures { (p : PlanParts) (t : TableParts) (bytes : List ℕ) → HasTaken p t bytes self.entry → IfOk result (JudgedBy (exact_at (sizes_of p) bytes) (IsVerdictOf p t)) }
+        ensures { (p : PlanParts) (t : TableParts) (bytes : List ℕ) → HasTakenExact p t bytes self.entry → IfOk result (JudgedBy (exact_at (sizes_of_plan p) bytes) (IsVerdictOfExact p t)) }
     {
         let Intake {
             reader,

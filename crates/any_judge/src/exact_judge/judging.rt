@@ -10,9 +10,9 @@ ghost use Rattle.certificates.specs.ExactParts.Parts.{node_parts};
 ghost use Rattle.exact_checker.specs.Judged.{JudgesThree};
 ghost use Rattle.group_checker.specs.Judged.{any_of};
 ghost use Rattle.any_judge.specs.ExactJudge.Stage.{IsRightOver};
-ghost use Rattle.any_judge.specs.ExactJudge.Trees.{Begun, all_begun, begun_all, HasHeardTrees};
-ghost use Rattle.any_judge.specs.ExactJudge.Heard.{Groups as GroupsOf, Heard, closed_at, with_node, with_part, with_ray, with_triangle};
-ghost use Rattle.any_judge.specs.ExactJudge.Judging.{HasHeard, HasHeardAll, IsCertOf, IsComplete, IsKept};
+ghost use Rattle.any_judge.specs.ExactJudge.Trees.{Begun, all_begun, begun_all, HasHeardRowTrees};
+ghost use Rattle.any_judge.specs.ExactJudge.Heard.{Groups as GroupsOf, ExactHeard, closed_at, with_node_of, with_exact_part, with_ray, with_triangle};
+ghost use Rattle.any_judge.specs.ExactJudge.Judging.{HasHeard, HasHeardAll, IsCertOf, IsExactComplete, KeepsExactHeard};
 
 use crate::exact_judge::stage::Stage;
 use crate::exact_judge::trees::RowTrees;
@@ -48,7 +48,7 @@ fn verdict_of(
     mut trees: RowTrees,
 ) -> Result<Verdict, Memory>
     requires { length groups.now ≤ MOST_TRIANGLES }
-    ensures { (p over : PlanParts) (c : PartsOf) (b : Begun) → IsCertOf p table.now c → c.groups ≡ groups.now → IsRightOver p over c.groups c.triangles c.rays trees.ground → HasHeardTrees b trees → all_begun (begun_all (length c.trees) b) ≡ c.trees → IfOk result (λ v. JudgesThree p table.now c (any_of v)) }
+    ensures { (p over : PlanParts) (c : PartsOf) (b : Begun) → IsCertOf p table.now c → c.groups ≡ groups.now → IsRightOver p over c.groups c.triangles c.rays trees.ground → HasHeardRowTrees b trees → all_begun (begun_all (length c.trees) b) ≡ c.trees → IfOk result (λ v. JudgesThree p table.now c (any_of v)) }
 {
     trees.finish(alloc)?;
     match trees.wrong {
@@ -78,7 +78,7 @@ impl<'a> Judging<'a> {
 
     /// A triangle, unless another part than a triangle or a ray has come before it.
     fn hear_triangle(&mut self, one: Labelled) -> Result<(), Memory>
-        ensures { (p : PlanParts) (t : TableParts) (groups : GroupsOf) (h : Heard) → IsKept p t groups h self.old → IfOk result (λ _. IsKept p t groups (with_triangle one h) self.new) }
+        ensures { (p : PlanParts) (t : TableParts) (groups : GroupsOf) (h : ExactHeard) → KeepsExactHeard p t groups h self.old → IfOk result (λ _. KeepsExactHeard p t groups (with_triangle one h) self.new) }
     {
         let Stage::Gathering = self.stage else {
             return Ok(());
@@ -89,7 +89,7 @@ impl<'a> Judging<'a> {
 
     /// A ray, unless another part than a triangle or a ray has come before it.
     fn hear_ray(&mut self, one: PairRay) -> Result<(), Memory>
-        ensures { (p : PlanParts) (t : TableParts) (groups : GroupsOf) (h : Heard) → IsKept p t groups h self.old → IfOk result (λ _. IsKept p t groups (with_ray one h) self.new) }
+        ensures { (p : PlanParts) (t : TableParts) (groups : GroupsOf) (h : ExactHeard) → KeepsExactHeard p t groups h self.old → IfOk result (λ _. KeepsExactHeard p t groups (with_ray one h) self.new) }
     {
         let Stage::Gathering = self.stage else {
             return Ok(());
@@ -100,7 +100,7 @@ impl<'a> Judging<'a> {
 
     /// Another part than a triangle or a ray has come.
     fn close(&mut self) -> Result<(), Memory>
-        ensures { (p : PlanParts) (t : TableParts) (groups : GroupsOf) (h : Heard) → IsKept p t groups h self.old → IfOk result (λ _. IsKept p t groups (closed_at h) self.new) }
+        ensures { (p : PlanParts) (t : TableParts) (groups : GroupsOf) (h : ExactHeard) → KeepsExactHeard p t groups h self.old → IfOk result (λ _. KeepsExactHeard p t groups (closed_at h) self.new) }
     {
         self.stage.close(
             self.alloc,
@@ -113,7 +113,7 @@ impl<'a> Judging<'a> {
 
     /// A node of this group's tree.
     fn hear_node(&mut self, source: usize, node: Node) -> Result<(), Memory>
-        ensures { (p : PlanParts) (t : TableParts) (groups : GroupsOf) (h : Heard) → h.closed ≡ true → IsKept p t groups h self.old → IfOk result (λ _. IsKept p t groups (with_node source node h) self.new) }
+        ensures { (p : PlanParts) (t : TableParts) (groups : GroupsOf) (h : ExactHeard) → h.closed ≡ true → KeepsExactHeard p t groups h self.old → IfOk result (λ _. KeepsExactHeard p t groups (with_node_of source node h) self.new) }
     {
         self.stage.hear_node(self.alloc, source, node)
     }
@@ -133,7 +133,7 @@ impl<'a> Judging<'a> {
 
     /// The next part, whichever it is.
     fn hear_any(&mut self, part: Part) -> Result<(), Memory>
-        ensures { (p : PlanParts) (t : TableParts) (groups : GroupsOf) (h : Heard) → IsKept p t groups h self.old → IfOk result (λ _. IsKept p t groups (with_part h part) self.new) }
+        ensures { (p : PlanParts) (t : TableParts) (groups : GroupsOf) (h : ExactHeard) → KeepsExactHeard p t groups h self.old → IfOk result (λ _. KeepsExactHeard p t groups (with_exact_part h part) self.new) }
     {
         match part {
             Part::Triangle(one) => self.hear_triangle(one),
@@ -155,7 +155,7 @@ impl<'a> Judging<'a> {
 
     /// The verdict on the certificate whose parts all have been heard: that of the check of the whole certificate.
     pub fn verdict(mut self) -> Result<AnyVerdict, Memory>
-        requires { IsComplete self }
+        requires { IsExactComplete self }
         ensures { (p : PlanParts) (t : TableParts) (c : PartsOf) → HasHeardAll p t c self.entry → IfOk result (JudgesThree p t c) }
     {
         self.close()?;

@@ -4,11 +4,11 @@ ghost use Rattle.std.specs.Prelude.{◌≡◌, ◌↔◌, ℕ, List, [], None, t
 ghost use Rattle.sight_names.specs.Plan.{PlanParts};
 ghost use Rattle.sight_names.specs.declared.names.PairRay.{PairRay as RayOf};
 ghost use Rattle.cert_format.specs.declared.cert.Labelled.{Labelled as AtGroup};
-ghost use Rattle.cert_checker.specs.Pairs.{IsWithin};
+ghost use Rattle.cert_checker.specs.Pairs.{IsPairWithin};
 ghost use Rattle.certificates.specs.CertParts.Nodes.{TakesNodes};
 ghost use Rattle.certificates.specs.ExactParts.Parts.{node_parts};
-ghost use Rattle.any_judge.specs.ExactJudge.Heard.{Groups as GroupsOf, Heard, closed_at, heard_from, with_node};
-ghost use Rattle.any_judge.specs.ExactJudge.Stage.{IsClosed, IsGroupedOver, IsStage};
+ghost use Rattle.any_judge.specs.ExactJudge.Heard.{Groups as GroupsOf, ExactHeard, closed_at, heard_from, with_node_of};
+ghost use Rattle.any_judge.specs.ExactJudge.Stage.{IsExactStageClosed, IsGroupedOver, IsStage};
 
 use crate::exact_judge::ground::Ground;
 use crate::exact_judge::trees::RowTrees;
@@ -33,14 +33,14 @@ pub enum Stage {
 
 /// Whether the pair is of two of so many groups, the lesser first.
 fn is_within(count: u16, pair: Pair) -> bool
-    ensures { IsTrue result ↔ IsWithin count pair }
+    ensures { IsTrue result ↔ IsPairWithin count pair }
 {
     pair.a < pair.b && pair.b < count
 }
 
 /// Whether each ray is for two of so many groups, the lesser first.
 fn are_within(count: u16, rays: &[PairRay]) -> bool
-    ensures { IsTrue result ↔ All (λ (r : RayOf). IsWithin count r.pair) rays.now }
+    ensures { IsTrue result ↔ All (λ (r : RayOf). IsPairWithin count r.pair) rays.now }
 {
     for one in rays {
         if !is_within(count, one.pair) {
@@ -53,8 +53,8 @@ fn are_within(count: u16, rays: &[PairRay]) -> bool
 /// Judges the rays over the map of groups; trees come next.
 fn walking_stage(alloc: Global, over: &GroupedMesh, rays: &[PairRay]) -> Result<Stage, Memory>
     requires over { (p : PlanParts) × (groups : GroupsOf) × (labelled : List AtGroup) × IsGroupedOver p groups labelled over.now }
-    requires within { All (λ (r : RayOf). IsWithin over.now.plan.sectors r.pair) rays.now }
-    ensures { (p : PlanParts) (groups : GroupsOf) (labelled : List AtGroup) → IsGroupedOver p groups labelled over.now → IfOk result (IsClosed p groups labelled rays.now ([], None)) }
+    requires within { All (λ (r : RayOf). IsPairWithin over.now.plan.sectors r.pair) rays.now }
+    ensures { (p : PlanParts) (groups : GroupsOf) (labelled : List AtGroup) → IsGroupedOver p groups labelled over.now → IfOk result (IsExactStageClosed p groups labelled rays.now ([], None)) }
 {
     let edges = HalfEdges::of(alloc, &over.plan, &over.mesh, &over.labels)?;
     if let Some(fault) = ray_fault(&over.plan, &over.mesh, &edges, rays) {
@@ -72,7 +72,7 @@ fn stage_of(
     labelled: &[Labelled],
     rays: &[PairRay],
 ) -> Result<Stage, Memory>
-    ensures { IfOk result (IsClosed plan.now groups.now labelled.now rays.now ([], None)) }
+    ensures { IfOk result (IsExactStageClosed plan.now groups.now labelled.now rays.now ([], None)) }
 {
     let points = plan.points().len() as u16;
     if !are_in_order(points, labelled) || !are_labelled_below(points, groups.len(), labelled) {
@@ -101,7 +101,7 @@ impl Stage {
         labelled: &[Labelled],
         rays: &[PairRay],
     ) -> Result<(), Memory>
-        ensures { IfOk result (λ _. IsClosed plan.now groups.now labelled.now rays.now ([], None) self.new) }
+        ensures { IfOk result (λ _. IsExactStageClosed plan.now groups.now labelled.now rays.now ([], None) self.new) }
     {
         *self = stage_of(alloc, plan, groups, labelled, rays)?;
         Ok(())
@@ -116,7 +116,7 @@ impl Stage {
         labelled: &[Labelled],
         rays: &[PairRay],
     ) -> Result<(), Memory>
-        ensures { (h : Heard) → labelled.now ≡ h.triangles → rays.now ≡ h.rays → IsStage plan.now groups.now h self.old → IfOk result (λ _. IsStage plan.now groups.now (closed_at h) self.new) }
+        ensures { (h : ExactHeard) → labelled.now ≡ h.triangles → rays.now ≡ h.rays → IsStage plan.now groups.now h self.old → IfOk result (λ _. IsStage plan.now groups.now (closed_at h) self.new) }
     {
         let Stage::Gathering = self else {
             return Ok(());
@@ -133,7 +133,7 @@ impl Stage {
         bytes: &'a [u8],
         count: u64,
     ) -> Result<(&'a [u8], u64), Memory>
-        ensures { IfOk result (λ r. TakesNodes bytes.now count r.0.now r.1 (λ nodes. (p : PlanParts) (groups : GroupsOf) (h : Heard) → IsStage p groups h self.old → IsStage p groups (heard_from h (node_parts source nodes)) self.new)) }
+        ensures { IfOk result (λ r. TakesNodes bytes.now count r.0.now r.1 (λ nodes. (p : PlanParts) (groups : GroupsOf) (h : ExactHeard) → IsStage p groups h self.old → IsStage p groups (heard_from h (node_parts source nodes)) self.new)) }
     {
         match self {
             Stage::Walking(trees) => trees.hear_nodes(source, bytes, count),
@@ -143,7 +143,7 @@ impl Stage {
 
     /// The next node of this group's tree.
     pub fn hear_node(&mut self, alloc: Global, source: usize, node: Node) -> Result<(), Memory>
-        ensures { (p : PlanParts) (groups : GroupsOf) (h : Heard) → h.closed ≡ true → IsStage p groups h self.old → IfOk result (λ _. IsStage p groups (with_node source node h) self.new) }
+        ensures { (p : PlanParts) (groups : GroupsOf) (h : ExactHeard) → h.closed ≡ true → IsStage p groups h self.old → IfOk result (λ _. IsStage p groups (with_node_of source node h) self.new) }
     {
         let Stage::Walking(trees) = self else {
             return Ok(());

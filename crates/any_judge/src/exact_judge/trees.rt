@@ -5,7 +5,7 @@ ghost use Rattle.std.specs.Option.{option_to_list};
 ghost use Rattle.block_evidence.specs.declared.sight_tree.Node.{Node as OneNode};
 ghost use Rattle.certificates.specs.CertParts.Nodes.{TakesNodes};
 ghost use Rattle.any_judge.specs.ExactJudge.Ground.{IsSizedGround};
-ghost use Rattle.any_judge.specs.ExactJudge.Trees.{Begun, HasHeardTrees, at_source, begun_all, heard_nodes, one_node};
+ghost use Rattle.any_judge.specs.ExactJudge.Trees.{Begun, HasHeardRowTrees, at_source, begun_all, heard_nodes, one_node};
 
 use crate::exact_judge::ground::Ground;
 use block_evidence::sight_tree::Node;
@@ -37,7 +37,7 @@ pub struct RowTrees {
 impl RowTrees {
     /// No tree so far.
     pub fn new(alloc: Global, judged_by: Ground) -> RowTrees
-        ensures heard { IsSizedGround judged_by → HasHeardTrees ([], None) result }
+        ensures heard { IsSizedGround judged_by → HasHeardRowTrees ([], None) result }
         ensures ground { result.ground ≡ judged_by }
     {
         RowTrees {
@@ -66,7 +66,7 @@ impl RowTrees {
 
     /// Ends the open tree, if there is one.
     fn end(&mut self)
-        ensures heard { (b : Begun) → HasHeardTrees b self.old → HasHeardTrees (b.0 ++ option_to_list b.1, None) self.new }
+        ensures heard { (b : Begun) → HasHeardRowTrees b self.old → HasHeardRowTrees (b.0 ++ option_to_list b.1, None) self.new }
         ensures ground { self.new.ground ≡ self.old.ground }
     {
         if !self.under_way {
@@ -87,7 +87,7 @@ impl RowTrees {
 
     /// The next tree begins; the one before it has ended.
     fn begin(&mut self, alloc: Global) -> Result<(), Memory>
-        ensures heard { (b : Begun) → HasHeardTrees b self.old → IfOk result (λ _. HasHeardTrees (b.0 ++ option_to_list b.1, Some []) self.new) }
+        ensures heard { (b : Begun) → HasHeardRowTrees b self.old → IfOk result (λ _. HasHeardRowTrees (b.0 ++ option_to_list b.1, Some []) self.new) }
         ensures ground { self.new.ground ≡ self.old.ground }
     {
         self.end();
@@ -121,7 +121,7 @@ impl RowTrees {
 
     /// The next node of the open tree.
     fn step(&mut self, node: Node) -> Result<(), Memory>
-        ensures heard { (b : Begun) → HasHeardTrees b self.old → IfOk result (λ _. HasHeardTrees (b.0, option_map (one_node node) b.1) self.new) }
+        ensures heard { (b : Begun) → HasHeardRowTrees b self.old → IfOk result (λ _. HasHeardRowTrees (b.0, option_map (one_node node) b.1) self.new) }
         ensures ground { self.new.ground ≡ self.old.ground }
     {
         if !self.under_way {
@@ -149,7 +149,7 @@ impl RowTrees {
         bytes: &'a [u8],
         count: u64,
     ) -> Result<(&'a [u8], u64), Memory>
-        ensures heard { IfOk result (λ r. TakesNodes bytes.now count r.0.now r.1 (λ nodes. (b : Begun) → HasHeardTrees b self.old → HasHeardTrees (heard_nodes source nodes b) self.new)) }
+        ensures heard { IfOk result (λ r. TakesNodes bytes.now count r.0.now r.1 (λ nodes. (b : Begun) → HasHeardRowTrees b self.old → HasHeardRowTrees (heard_nodes source nodes b) self.new)) }
         ensures ground { self.new.ground ≡ self.old.ground }
     {
         if !self.under_way || source != self.source as usize {
@@ -173,7 +173,7 @@ impl RowTrees {
 
     /// Begins trees until so many have begun.
     fn begin_to(&mut self, alloc: Global, count: usize) -> Result<(), Memory>
-        ensures heard { (b : Begun) → HasHeardTrees b self.old → IfOk result (λ _. HasHeardTrees (begun_all count b) self.new) }
+        ensures heard { (b : Begun) → HasHeardRowTrees b self.old → IfOk result (λ _. HasHeardRowTrees (begun_all count b) self.new) }
         ensures ground { self.new.ground ≡ self.old.ground }
     {
         if self.wrong.is_some() {
@@ -187,7 +187,7 @@ impl RowTrees {
 
     /// The next node of this group's tree; trees of groups before it have ended.
     pub fn hear(&mut self, alloc: Global, source: usize, node: Node) -> Result<(), Memory>
-        ensures heard { (b : Begun) → HasHeardTrees b self.old → IfOk result (λ _. HasHeardTrees (at_source source node b) self.new) }
+        ensures heard { (b : Begun) → HasHeardRowTrees b self.old → IfOk result (λ _. HasHeardRowTrees (at_source source node b) self.new) }
         ensures ground { self.new.ground ≡ self.old.ground }
     {
         if source >= self.ground.count as usize {
@@ -199,7 +199,7 @@ impl RowTrees {
 
     /// All trees have ended.
     pub fn finish(&mut self, alloc: Global) -> Result<(), Memory>
-        ensures heard { (b : Begun) → HasHeardTrees b self.old → IfOk result (λ _. HasHeardTrees ((begun_all self.old.ground.count b).0 ++ option_to_list (begun_all self.old.ground.count b).1, None) self.new) }
+        ensures heard { (b : Begun) → HasHeardRowTrees b self.old → IfOk result (λ _. HasHeardRowTrees ((begun_all self.old.ground.count b).0 ++ option_to_list (begun_all self.old.ground.count b).1, None) self.new) }
         ensures ground { self.new.ground ≡ self.old.ground }
     {
         self.begin_to(alloc, self.ground.count as usize)?;

@@ -8,7 +8,7 @@ use Rattle.std.proofs.lemmas.Nat.{from_le_bytes-to_le_bytes_2}
 use Rattle.block_evidence.specs.Stuck.{end_codes}
 use Rattle.block_evidence.specs.declared.sight_tree.Node.{Node}
 use Rattle.block_evidence.specs.declared.sight_tree.Node.TheVariants.{Open, Blocked}
-use Rattle.block_evidence.specs.SightTree.Spelling.{u16, node_bytes, IsPackable, FitsNode, SpellNodes, first_ends, first_node, nodes_within, nodes_of}
+use Rattle.block_evidence.specs.SightTree.Spelling.{u16, node_bytes, IsPackable, FitsNode, SpellNodes, first_ends, first_node, nodes_within, nodes_in_bytes}
 
 -- ---- one node
 
@@ -103,10 +103,10 @@ nodes_back bytes (n ∷ ns) (suc limit) s le =
     let others = nodes_back more ns limit (record { spelled = refl; packable = s.packable.1; fit = s.fit.1 }) short in
     rw (parts, behind, one_back n more s.packable.0 s.fit.0, others) refl
 
-pub read_back : (bytes : List ℕ) (ns : List Node) → SpellNodes bytes ns → nodes_of bytes ≡ ns
+pub read_back : (bytes : List ℕ) (ns : List Node) → SpellNodes bytes ns → nodes_in_bytes bytes ≡ ns
 read_back bytes ns s = nodes_back bytes ns (length bytes) s (omega arith)
 
-pub spelled_themselves : (bytes : List ℕ) (ns : List Node) → SpellNodes bytes ns → SpellNodes bytes (nodes_of bytes)
+pub spelled_themselves : (bytes : List ℕ) (ns : List Node) → SpellNodes bytes ns → SpellNodes bytes (nodes_in_bytes bytes)
 spelled_themselves bytes ns s = subst (λ (ms : List Node). SpellNodes bytes ms) (sym (read_back bytes ns s)) s
 
 pub no_more_than_bytes : (bytes : List ℕ) (ns : List Node) → SpellNodes bytes ns → length ns ≤ length bytes
@@ -134,8 +134,8 @@ spelled_more bytes ns n s p f = record {
 pub record IsFirstTaken (k : ℕ) (rest : List ℕ) (ns : List Node) : Type 0 where
   pub most : k ≤ 4
   pub whole : 2 * k ≤ length rest
-  pub nodes : ns ≡ first_node k (take (2 * k) rest) ∷ nodes_of (drop (2 * k) rest)
-  pub spelled : SpellNodes (drop (2 * k) rest) (nodes_of (drop (2 * k) rest))
+  pub nodes : ns ≡ first_node k (take (2 * k) rest) ∷ nodes_in_bytes (drop (2 * k) rest)
+  pub spelled : SpellNodes (drop (2 * k) rest) (nodes_in_bytes (drop (2 * k) rest))
 
 pub first_taken : (k : ℕ) (rest : List ℕ) (ns : List Node) → SpellNodes (k ∷ rest) ns → IsFirstTaken k rest ns
 first_taken k rest [] s = absurd (let h = s.spelled in cc)
@@ -158,5 +158,5 @@ pub many_more : (ns : List Node) (n : Node) → length (ns ++ n ∷ []) ≡ leng
 many_more ns n = omega (arith, length-append ns (n ∷ []))
 
 -- one node more, in the bytes that are there now
-pub more_bytes : (old new : List ℕ) (n : Node) → SpellNodes old (nodes_of old) → new ≡ old ++ node_bytes n → IsPackable n → FitsNode n → SpellNodes new (nodes_of old ++ n ∷ [])
-more_bytes old new n s is p f = rw is (spelled_more old (nodes_of old) n s p f)
+pub more_bytes : (old new : List ℕ) (n : Node) → SpellNodes old (nodes_in_bytes old) → new ≡ old ++ node_bytes n → IsPackable n → FitsNode n → SpellNodes new (nodes_in_bytes old ++ n ∷ [])
+more_bytes old new n s is p f = rw is (spelled_more old (nodes_in_bytes old) n s p f)

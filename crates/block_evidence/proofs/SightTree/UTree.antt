@@ -12,7 +12,7 @@ use Rattle.block_evidence.specs.declared.Evidence.{Evidence}
 use Rattle.block_evidence.specs.declared.sight_tree.Node.TheVariants.{Open, Blocked}
 use Rattle.block_evidence.specs.declared.sight_tree.Tree.{Tree}
 use Rattle.block_evidence.specs.Stuck.{BlocksSequence}
-use Rattle.block_evidence.specs.SightTree.WholeTree.{Answers, no_node, blocked, open_node}
+use Rattle.block_evidence.specs.SightTree.WholeTree.{NodesAnswer, no_node, blocked, open_node}
 use Rattle.math_base.proofs.Options.{some_is_same}
 
 abbrev pub evidence : Evidence
@@ -88,7 +88,7 @@ stuck = record {
   stuck = (point_of (pt 64 64), record { weights = 2 ∷ 1 ∷ []; one_each = refl; weighed = lit< tt; x = refl; y = refl }, record { weights = 1 ∷ []; one_each = refl; weighed = lit< tt; x = refl; y = refl });
 }
 
-pub answers : Answers u_map mesh labels 0 p0 tree.nodes (2 ∷ 3 ∷ 4 ∷ 7 ∷ [])
+pub answers : NodesAnswer u_map mesh labels 0 p0 tree.nodes (2 ∷ 3 ∷ 4 ∷ 7 ∷ [])
 unfolding points_of
 answers =
     open_node (portal 1 4) 2 2 [] _ [] _ (record { last = refl; no_wall = not_solid (portal 1 4) refl; entered = refl; outside = outside_one }) refl

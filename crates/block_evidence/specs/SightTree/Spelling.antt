@@ -53,5 +53,5 @@ nodes_within (suc n) [] = []
 nodes_within (suc n) (k ∷ bytes) = first_node k bytes ∷ nodes_within n (drop (2 * k) bytes)
 
 -- all of them: each takes at least one byte
-abbrev pub nodes_of : List ℕ → List Node
-nodes_of bytes = nodes_within (length bytes) bytes
+abbrev pub nodes_in_bytes : List ℕ → List Node
+nodes_in_bytes bytes = nodes_within (length bytes) bytes

@@ -26,18 +26,18 @@ module _ (m : Map) (ts : List Triangle) (ls : List (Option ℕ)) (a : ℕ) where
 
   -- The nodes answer for the sequence with these portals and for all that follows it. The open ones lead into the
   -- triangles of the last list, in order.
-  pub data Answers : List Portal → List Node → List ℕ → Type 0 where
-    no_node : {ps : List Portal} {ns : List Node} {opened : List ℕ} (p : Portal) → last_or None ps ≡ Some p → HasNoNode p → ns ≡ [] → opened ≡ [] → Answers ps ns opened
-    blocked : {ps : List Portal} {ns : List Node} {opened : List ℕ} (p : Portal) (k : ℕ) (e : Evidence) → HasNode ps p k → BlocksSequence m ps e → ns ≡ Blocked e ∷ [] → opened ≡ [] → Answers ps ns opened
+  pub data NodesAnswer : List Portal → List Node → List ℕ → Type 0 where
+    no_node : {ps : List Portal} {ns : List Node} {opened : List ℕ} (p : Portal) → last_or None ps ≡ Some p → HasNoNode p → ns ≡ [] → opened ≡ [] → NodesAnswer ps ns opened
+    blocked : {ps : List Portal} {ns : List Node} {opened : List ℕ} (p : Portal) (k : ℕ) (e : Evidence) → HasNode ps p k → BlocksSequence m ps e → ns ≡ Blocked e ∷ [] → opened ≡ [] → NodesAnswer ps ns opened
     open_node : {ps : List Portal} {ns : List Node} {opened : List ℕ} (p : Portal) (k t : ℕ) (left right : List Node) (via_left via_right : List ℕ) → HasNode ps p k → apex ts p ≡ Some t
-        → Answers (ps ++ way_out p Left t ∷ []) left via_left → Answers (ps ++ way_out p Right t ∷ []) right via_right
-        → ns ≡ Open ∷ (left ++ right) → opened ≡ k ∷ (via_left ++ via_right) → Answers ps ns opened
+        → NodesAnswer (ps ++ way_out p Left t ∷ []) left via_left → NodesAnswer (ps ++ way_out p Right t ∷ []) right via_right
+        → ns ≡ Open ∷ (left ++ right) → opened ≡ k ∷ (via_left ++ via_right) → NodesAnswer ps ns opened
 
   -- the nodes answer for each of these roots in order, and no node is left over
   abbrev pub AnswersRoots : List Side → List Node → List ℕ → Type 0
   AnswersRoots [] ns opened = (ns ≡ []) × (opened ≡ [])
   AnswersRoots (s ∷ ss) ns opened = (p : Portal) × (front back : List Node) × (via_front via_back : List ℕ) × (root_portal m s ≡ Some p) × (ns ≡ front ++ back) × (opened ≡ via_front ++ via_back)
-      × Answers (p ∷ []) front via_front × AnswersRoots ss back via_back
+      × NodesAnswer (p ∷ []) front via_front × AnswersRoots ss back via_back
 
 -- the tree is whole, and its open nodes lead into these triangles
 abbrev pub IsWholeTree : Map → List Triangle → List (Option ℕ) → Tree → List ℕ → Type 0

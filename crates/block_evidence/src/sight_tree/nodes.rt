@@ -28,11 +28,11 @@ impl Model for Nodes {
 
     ghost Value = { List WalkNode };
 
-    ghost use Rattle.block_evidence.specs.SightTree.Spelling.{SpellNodes, nodes_of};
+    ghost use Rattle.block_evidence.specs.SightTree.Spelling.{SpellNodes, nodes_in_bytes};
 
-    ghost view = { λ s. nodes_of s.bytes.items };
+    ghost view = { λ s. nodes_in_bytes s.bytes.items };
 
-    ghost invariant = { λ s. SpellNodes s.bytes.items (nodes_of s.bytes.items) × (s.count ≡ length (nodes_of s.bytes.items)) };
+    ghost invariant = { λ s. SpellNodes s.bytes.items (nodes_in_bytes s.bytes.items) × (s.count ≡ length (nodes_in_bytes s.bytes.items)) };
 }
 
 impl Nodes {
@@ -199,11 +199,11 @@ impl<'a> Model for NodesIter<'a> {
 
     ghost Value = { List WalkNode };
 
-    ghost use Rattle.block_evidence.specs.SightTree.Spelling.{SpellNodes, nodes_of};
+    ghost use Rattle.block_evidence.specs.SightTree.Spelling.{SpellNodes, nodes_in_bytes};
 
-    ghost view = { λ s. nodes_of s.bytes.now };
+    ghost view = { λ s. nodes_in_bytes s.bytes.now };
 
-    ghost invariant = { λ s. SpellNodes s.bytes.now (nodes_of s.bytes.now) };
+    ghost invariant = { λ s. SpellNodes s.bytes.now (nodes_in_bytes s.bytes.now) };
 }
 
 impl<'a> Iterator for NodesIter<'a> {

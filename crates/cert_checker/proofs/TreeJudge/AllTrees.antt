@@ -13,17 +13,17 @@ use Rattle.block_evidence.specs.declared.sight_tree.Tree.{Tree}
 use Rattle.block_evidence.specs.SightTree.WholeTree.{IsWholeTree}
 use Rattle.reject_bits.specs.Parts.{TableParts, Rejects}
 use Rattle.cert_format.specs.Parts.{CertParts}
-use Rattle.cert_format.specs.Grammar.{IsInOrder, IsTreeInRange}
+use Rattle.cert_format.specs.Grammar.{IsOneInOrder, IsTreeInRange}
 use Rattle.sight_names.specs.Order.{Ascends}
 use Rattle.cert_format.specs.Accepted.{triangles_of, labels_of, HasTreeWithout}
 use Rattle.mesh_shape.specs.declared.half_edges.table.HalfEdge.{HalfEdge}
 use Rattle.cert_checker.specs.declared.tree_judge.roots.Root.{Root}
-use Rattle.cert_checker.specs.TreeJudge.Marks.{IsMarked, Marks, HasNoMark}
+use Rattle.cert_checker.specs.TreeJudge.Marks.{IsFlagSet, Marks, HasNoMark}
 use Rattle.cert_checker.specs.TreeJudge.Trees.{IsFirstTreeNotWhole, AreTreesWhole, TellsReach}
 use Rattle.mesh_shape.specs.HalfEdges.HalfEdges.{AreHalfEdges, AreOfGoodMesh}
 use Rattle.cert_checker.specs.TreeJudge.Path.{Pending, root_pending, longest_of}
-use Rattle.cert_checker.specs.TreeJudge.Roots.{first_at, root_edges, AreRoots}
-use Rattle.cert_checker.specs.TreeJudge.Whole.{AreAnswered, IsFirstWrong, Notes, IsFirstWrongFrom, IsFirstWrongTree, IsWholeFrom, IsWholeOver, HasTreeAway, HasTreeInto, AreWholeOver, HasNoBit, HaveSourcesBelow}
+use Rattle.cert_checker.specs.TreeJudge.Roots.{first_at, root_edges, AreRootChains}
+use Rattle.cert_checker.specs.TreeJudge.Whole.{AreAnswered, IsFirstWrongNode, Notes, IsFirstWrongFrom, IsFirstWrongTree, IsWholeFrom, IsWholeOver, HasTreeAway, HasTreeInto, AreWholeOver, HasNoBit, HaveSourcesBelow}
 use Rattle.cert_checker.proofs.TreeJudge.WholeTrees.{whole_tree, whole_answers, none_reached, none_entered}
 use Rattle.cert_checker.proofs.TreeJudge.Meshed.{AreAllNamed}
 use Rattle.cert_checker.proofs.TreeJudge.OneAnswer.{same_sectors}
@@ -36,14 +36,14 @@ module _ (m : Map) (ts : List Triangle) (xs : List HalfEdge) (trees : List Tree)
     pub size : reached_new.n ≡ reached.n
     pub len : length walked_new ≡ length walked
     pub each : (i : ℕ) (t : Tree) → i < k → slice_get trees i ≡ Some t → (sectors : List ℕ) × IsWholeOver m ts xs t sectors
-    pub away : (a b : ℕ) → a < reached.n → b < reached.n → IsMarked walked_new a → ¬ Rejects reached_new a b → IsMarked walked a ⊎ HasTreeAway m ts xs trees a b
-    pub marked : (i : ℕ) (t : Tree) → i < k → slice_get trees i ≡ Some t → t.source < length walked → IsMarked walked_new t.source
+    pub away : (a b : ℕ) → a < reached.n → b < reached.n → IsFlagSet walked_new a → ¬ Rejects reached_new a b → IsFlagSet walked a ⊎ HasTreeAway m ts xs trees a b
+    pub marked : (i : ℕ) (t : Tree) → i < k → slice_get trees i ≡ Some t → t.source < length walked → IsFlagSet walked_new t.source
     pub entered : (a b : ℕ) → a < reached.n → b < reached.n → Rejects reached_new a b → Rejects reached a b ⊎ HasTreeInto m ts xs trees a b
 
   pub none_yet : AreWholeBelow 0 walked reached
   none_yet = record { size = refl; len = refl; each = λ i t l e. absurd (omega (arith, l)); away = λ a b g h n r. inl n; marked = λ i t l e h. absurd (omega (arith, l)); entered = λ a b g h s. inl s }
 
-  pub one_more : (k : ℕ) (t : Tree) (roots : List Root) (firsts : List (Option ℕ)) (w w_new : List Bool) (r r_new : TableParts) → AreRoots m ts xs roots firsts → t.source < m.sectors → slice_get trees k ≡ Some t
+  pub one_more : (k : ℕ) (t : Tree) (roots : List Root) (firsts : List (Option ℕ)) (w w_new : List Bool) (r r_new : TableParts) → AreRootChains m ts xs roots firsts → t.source < m.sectors → slice_get trees k ≡ Some t
       → AreWholeBelow k w r → IsWholeFrom xs roots (first_at firsts t.source) t r r_new → Marks (Some t.source) w w_new → AreWholeBelow (k + 1) w_new r_new
   one_more k t roots firsts w w_new r r_new are low is f g marks = go (g.whole (root_edges ts xs m t.source) (are.chains t.source low))
     where
@@ -68,8 +68,8 @@ module _ (m : Map) (ts : List Triangle) (xs : List HalfEdge) (trees : List Tree)
             | inr h ↦ subst (λ (v : Tree). (sectors : List ℕ) × IsWholeOver m ts xs v sectors) (this i u h l e) (sectors, answered)
           ]
 
-          marked : (i : ℕ) (u : Tree) → i < k + 1 → slice_get trees i ≡ Some u → u.source < length walked → IsMarked w_new u.source
-          marked i u l e s = elim (cases_lt i k) as (λ _. IsMarked w_new u.source) [
+          marked : (i : ℕ) (u : Tree) → i < k + 1 → slice_get trees i ≡ Some u → u.source < length walked → IsFlagSet w_new u.source
+          marked i u l e s = elim (cases_lt i k) as (λ _. IsFlagSet w_new u.source) [
             | inl h ↦ (marks.flags u.source (omega (arith, s, f.len))).1 (inl (f.marked i u h e s))
             | inr h ↦ (marks.flags u.source (omega (arith, s, f.len))).1 (inr (ap (λ (v : Tree). let o : Option ℕ = Some v.source in o) (this i u h l e)))
           ]
@@ -84,18 +84,18 @@ module _ (m : Map) (ts : List Triangle) (xs : List HalfEdge) (trees : List Tree)
               by (inl h) = f.entered a b la lb h
               by (inr h) = inr (t, sectors, there, sym h.0, answered, h.1)
 
-          away : (a b : ℕ) → a < reached.n → b < reached.n → IsMarked w_new a → ¬ Rejects r_new a b → IsMarked walked a ⊎ HasTreeAway m ts xs trees a b
+          away : (a b : ℕ) → a < reached.n → b < reached.n → IsFlagSet w_new a → ¬ Rejects r_new a b → IsFlagSet walked a ⊎ HasTreeAway m ts xs trees a b
           away a b la lb n clear = by ((marks.flags a (let l : a < length w_new = slice_get_within w_new a true n in omega (arith, l, marks.len))).0 n)
             where
               bits : (Rejects r_new a b → Rejects r a b ⊎ ((a ≡ t.source) × Contains sectors b)) × (Rejects r a b ⊎ ((a ≡ t.source) × Contains sectors b) → Rejects r_new a b)
               bits = notes.bits a b (within a la) (within b lb)
 
-              by : IsMarked w a ⊎ (◌≡◌ {A = Option ℕ} (Some t.source) (Some a)) → IsMarked walked a ⊎ HasTreeAway m ts xs trees a b
+              by : IsFlagSet w a ⊎ (◌≡◌ {A = Option ℕ} (Some t.source) (Some a)) → IsFlagSet walked a ⊎ HasTreeAway m ts xs trees a b
               by (inl h) = f.away a b la lb h (λ s. clear (bits.1 (inl s)))
               by (inr e) = inr (t, sectors, there, same_Some t.source a e, answered, λ c. clear (bits.1 (inr (sym (same_Some t.source a e), c))))
 
   -- the next tree has a wrong node
-  pub wrong_tree : (k n : ℕ) (t : Tree) (roots : List Root) (firsts : List (Option ℕ)) (w : List Bool) (r : TableParts) → AreRoots m ts xs roots firsts → t.source < m.sectors → slice_get trees k ≡ Some t
+  pub wrong_tree : (k n : ℕ) (t : Tree) (roots : List Root) (firsts : List (Option ℕ)) (w : List Bool) (r : TableParts) → AreRootChains m ts xs roots firsts → t.source < m.sectors → slice_get trees k ≡ Some t
       → AreWholeBelow k w r → IsFirstWrongFrom xs roots (first_at firsts t.source) t n → IsFirstWrongTree m ts xs trees t.source n
   wrong_tree k n t roots firsts w r are low is f g = record { place = k; tree = t; is = is; of = refl; wrong = g.wrong (root_edges ts xs m t.source) (are.chains t.source low); before = f.each }
 
@@ -189,18 +189,18 @@ module _ (p : PlanParts) (c : CertParts) (ts : List Triangle) (xs : List HalfEdg
   trees_whole j over t there = let f = (over_mesh j over).each t there in tree_over_mesh j t f.0 f.1
 
   abbrev IsKept : List Bool → ℕ → ℕ → Type 0
-  IsKept now a b = IsMarked now a × ¬ Rejects reached_new a b
+  IsKept now a b = IsFlagSet now a × ¬ Rejects reached_new a b
 
   -- flags and bits show exactly which pairs a tree keeps apart
-  pub keeps_away : (none now : List Bool) → AreTreesJudged → AreWholeOver (map_of p) ts xs trees old new reached reached_new → IsInOrder c → HasNoMark p.sectors none → HasNoBit reached → old ≡ none → now ≡ new → reached.n ≡ p.sectors
+  pub keeps_away : (none now : List Bool) → AreTreesJudged → AreWholeOver (map_of p) ts xs trees old new reached reached_new → IsOneInOrder c → HasNoMark p.sectors none → HasNoBit reached → old ≡ none → now ≡ new → reached.n ≡ p.sectors
       → TellsReach (map_of p) c now reached_new
-  keeps_away none now j over order unmarked clear e f g a b la lb = (λ kept. shown (whole.away a b (omega (arith, la, g)) (omega (arith, lb, g)) (subst (λ (bs : List Bool). IsMarked bs a) f kept.0) kept.1), λ has. kept (tree_without j a b has))
+  keeps_away none now j over order unmarked clear e f g a b la lb = (λ kept. shown (whole.away a b (omega (arith, la, g)) (omega (arith, lb, g)) (subst (λ (bs : List Bool). IsFlagSet bs a) f kept.0) kept.1), λ has. kept (tree_without j a b has))
     where
       whole : AreWholeOver (map_of p) (triangles_of c) xs c.trees old new reached reached_new
       whole = over_mesh j over
 
-      shown : IsMarked old a ⊎ HasTreeAway (map_of p) (triangles_of c) xs c.trees a b → HasTreeWithout (map_of p) c a b
-      shown (inl m) = absurd (unmarked.none a la (subst (λ (bs : List Bool). IsMarked bs a) e m))
+      shown : IsFlagSet old a ⊎ HasTreeAway (map_of p) (triangles_of c) xs c.trees a b → HasTreeWithout (map_of p) c a b
+      shown (inl m) = absurd (unmarked.none a la (subst (λ (bs : List Bool). IsFlagSet bs a) e m))
       shown (inr t) = tree_away j a b t
 
       many : length old ≡ p.sectors
@@ -212,11 +212,11 @@ module _ (p : PlanParts) (c : CertParts) (ts : List Triangle) (xs : List HalfEdg
 
       kept : HasTreeAway (map_of p) (triangles_of c) xs c.trees a b → IsKept now a b
       kept t = (
-        subst (λ (bs : List Bool). IsMarked bs a) (sym f) (subst (IsMarked new) t.3 (whole.marked t.0 t.2 (let h : t.0.source ≡ a = t.3 in omega (arith, h, la, many)))),
+        subst (λ (bs : List Bool). IsFlagSet bs a) (sym f) (subst (IsFlagSet new) t.3 (whole.marked t.0 t.2 (let h : t.0.source ≡ a = t.3 in omega (arith, h, la, many)))),
         λ set. none_set t (whole.entered a b (omega (arith, la, g)) (omega (arith, lb, g)) set),
       )
 
-  not_whole_over : AreTreesJudged → (t : Tree) (k : ℕ) → IsFirstWrong xs t.source (map root_pending (root_edges (triangles_of c) xs (map_of p) t.source)) t.nodes k → (opened : List ℕ) → ¬ IsWholeTree (map_of p) (triangles_of c) (labels_of c) t opened
+  not_whole_over : AreTreesJudged → (t : Tree) (k : ℕ) → IsFirstWrongNode xs t.source (map root_pending (root_edges (triangles_of c) xs (map_of p) t.source)) t.nodes k → (opened : List ℕ) → ¬ IsWholeTree (map_of p) (triangles_of c) (labels_of c) t opened
   not_whole_over j t k wrong opened whole = let f = whole_answers p (triangles_of c) xs (mesh_of j) (all_named c) t.source t.nodes opened whole in
       not_whole xs t.source (map root_pending (root_edges (triangles_of c) xs (map_of p) t.source)) t.nodes k f.0 wrong f.1
 
@@ -241,7 +241,7 @@ module _ (p : PlanParts) (c : CertParts) (ts : List Triangle) (xs : List HalfEdg
 
 -- ---- the sources of a certificate's trees
 
-pub sources_below : (c : CertParts) (n : ℕ) (trees : List Tree) → IsInOrder c → c.sizes.sectors ≡ n → trees ≡ c.trees → HaveSourcesBelow n trees
+pub sources_below : (c : CertParts) (n : ℕ) (trees : List Tree) → IsOneInOrder c → c.sizes.sectors ≡ n → trees ≡ c.trees → HaveSourcesBelow n trees
 sources_below c n trees order e f t there = go c.trees order.trees (subst (λ (us : List Tree). Contains us t) f there)
   where
     go : (us : List Tree) → AllByRecursion (IsTreeInRange c.sizes) us → Contains us t → t.source < n

@@ -22,13 +22,13 @@ use Rattle.cert_checker.specs.declared.tree_judge.roots.Root.{Root}
 use Rattle.mesh_shape.specs.declared.half_edges.table.HalfEdge.{HalfEdge}
 use Rattle.mesh_shape.specs.HalfEdges.Numbers.{edge}
 use Rattle.mesh_shape.specs.HalfEdges.HalfEdges.{entering, way_outside}
-use Rattle.cert_checker.specs.TreeJudge.Path.{IsChain, list_of}
-use Rattle.cert_checker.specs.TreeJudge.Roots.{first_at, PutsFirst, PutsBefore, way_out_of, side_edges, line_edges, root_edge, AreRoots}
+use Rattle.cert_checker.specs.TreeJudge.Path.{IsRootChain, list_of}
+use Rattle.cert_checker.specs.TreeJudge.Roots.{first_at, PutsFirst, PutsBefore, way_out_of, side_edges, half_edges_of_line, root_edge, AreRootChains}
 use Rattle.sight_names.proofs.Roots.{root_test, names_true}
 
 -- ---- roots put before others
 
-chain_kept : (roots more : List Root) (o : Option ℕ) (es : List ℕ) → IsChain roots o es → IsChain (roots ++ more) o es
+chain_kept : (roots more : List Root) (o : Option ℕ) (es : List ℕ) → IsRootChain roots o es → IsRootChain (roots ++ more) o es
 chain_kept roots more o [] c = c
 chain_kept roots more o (e ∷ es) (k, r, p, q, f, c) = (k, r, p, get_append roots more k r q, f, chain_kept roots more r.next es c)
 
@@ -49,16 +49,16 @@ get_other (y ∷ xs) (suc i) zero x n = refl
 get_other (y ∷ xs) (suc i) (suc j) x n = get_other xs i j x (λ e. n (ap suc e))
 
 pub before_none : (edges : ℕ → List ℕ) (roots : List Root) (firsts : List (Option ℕ)) → ((s : ℕ) → edges s ≡ []) → PutsBefore edges roots firsts roots firsts
-before_none edges roots firsts e = record { len = refl; chains = λ s l es c. subst (IsChain roots (first_at firsts s)) (ap (λ (fs : List ℕ). fs ++ es) (sym (e s))) c }
+before_none edges roots firsts e = record { len = refl; chains = λ s l es c. subst (IsRootChain roots (first_at firsts s)) (ap (λ (fs : List ℕ). fs ++ es) (sym (e s))) c }
 
 pub before_as : (edges others : ℕ → List ℕ) (roots new : List Root) (firsts firsts_new : List (Option ℕ)) → ((s : ℕ) → edges s ≡ others s) → PutsBefore edges roots firsts new firsts_new → PutsBefore others roots firsts new firsts_new
-before_as edges others roots new firsts firsts_new e p = record { len = p.len; chains = λ s l es c. subst (IsChain new (first_at firsts_new s)) (ap (λ (fs : List ℕ). fs ++ es) (e s)) (p.chains s l es c) }
+before_as edges others roots new firsts firsts_new e p = record { len = p.len; chains = λ s l es c. subst (IsRootChain new (first_at firsts_new s)) (ap (λ (fs : List ℕ). fs ++ es) (e s)) (p.chains s l es c) }
 
 pub before_both : (edges others : ℕ → List ℕ) (roots middle new : List Root) (firsts firsts_middle firsts_new : List (Option ℕ)) → PutsBefore edges roots firsts middle firsts_middle → PutsBefore others middle firsts_middle new firsts_new
     → PutsBefore (λ s. others s ++ edges s) roots firsts new firsts_new
 before_both edges others roots middle new firsts firsts_middle firsts_new p q = record {
   len = q.len ∙ p.len;
-  chains = λ s l es c. subst (IsChain new (first_at firsts_new s)) (sym (append_assoc (others s) (edges s) es)) (q.chains s (let h : length firsts_middle ≡ length firsts = p.len in omega (arith, h, l)) (edges s ++ es) (p.chains s l es c));
+  chains = λ s l es c. subst (IsRootChain new (first_at firsts_new s)) (sym (append_assoc (others s) (edges s) es)) (q.chains s (let h : length firsts_middle ≡ length firsts = p.len in omega (arith, h, l)) (edges s ++ es) (p.chains s l es c));
 }
 
 abbrev pub one_edge : ℕ → ℕ → ℕ → List ℕ
@@ -79,21 +79,21 @@ puts_before source number roots new firsts firsts_new p = record {
     there : (s : ℕ) → source ≢ s → source < length firsts → first_at firsts_new s ≡ first_at firsts s
     there s n l = ap (λ (o : Option (Option ℕ)). option_and_then (λ (q : Option ℕ). q) o) (ap (λ (fs : List (Option ℕ)). slice_get fs s) (p.first l) ∙ get_other firsts source s (Some (length roots)) n)
 
-    more : (o : Option ℕ) (es : List ℕ) → source < length firsts → IsChain roots o es → IsChain new o es
-    more o es l c = subst (λ (rs : List Root). IsChain rs o es) (sym (p.put l)) (chain_kept roots (put ∷ []) o es c)
+    more : (o : Option ℕ) (es : List ℕ) → source < length firsts → IsRootChain roots o es → IsRootChain new o es
+    more o es l c = subst (λ (rs : List Root). IsRootChain rs o es) (sym (p.put l)) (chain_kept roots (put ∷ []) o es c)
 
-    first : (s : ℕ) (es : List ℕ) → source ≡ s → source < length firsts → IsChain roots (first_at firsts s) es → IsChain new (first_at firsts_new s) (number ∷ es)
-    first s es e l c = (length roots, put, here s e l, ap (λ (rs : List Root). slice_get rs (length roots)) (p.put l) ∙ last_root roots put, refl, more (first_at firsts source) es l (subst (λ (k : ℕ). IsChain roots (first_at firsts k) es) (sym e) c))
+    first : (s : ℕ) (es : List ℕ) → source ≡ s → source < length firsts → IsRootChain roots (first_at firsts s) es → IsRootChain new (first_at firsts_new s) (number ∷ es)
+    first s es e l c = (length roots, put, here s e l, ap (λ (rs : List Root). slice_get rs (length roots)) (p.put l) ∙ last_root roots put, refl, more (first_at firsts source) es l (subst (λ (k : ℕ). IsRootChain roots (first_at firsts k) es) (sym e) c))
 
-    other : (s : ℕ) (es : List ℕ) → source ≢ s → IsChain roots (first_at firsts s) es → IsChain new (first_at firsts_new s) es
-    other s es n c = elim (cases_lt source (length firsts)) as (λ _. IsChain new (first_at firsts_new s) es) [
-      | inl l ↦ subst (λ (o : Option ℕ). IsChain new o es) (sym (there s n l)) (more (first_at firsts s) es l c)
-      | inr l ↦ subst (λ (rs : List Root). IsChain rs (first_at firsts_new s) es) (sym (p.no_place l).0) (subst (λ (fs : List (Option ℕ)). IsChain roots (first_at fs s) es) (sym (p.no_place l).1) c)
+    other : (s : ℕ) (es : List ℕ) → source ≢ s → IsRootChain roots (first_at firsts s) es → IsRootChain new (first_at firsts_new s) es
+    other s es n c = elim (cases_lt source (length firsts)) as (λ _. IsRootChain new (first_at firsts_new s) es) [
+      | inl l ↦ subst (λ (o : Option ℕ). IsRootChain new o es) (sym (there s n l)) (more (first_at firsts s) es l c)
+      | inr l ↦ subst (λ (rs : List Root). IsRootChain rs (first_at firsts_new s) es) (sym (p.no_place l).0) (subst (λ (fs : List (Option ℕ)). IsRootChain roots (first_at fs s) es) (sym (p.no_place l).1) c)
     ]
 
-    by : (s : ℕ) → s < length firsts → (es : List ℕ) → IsChain roots (first_at firsts s) es → (((source == s) ≡ true) × (source ≡ s)) ⊎ (((source == s) ≡ false) × (source ≢ s)) → IsChain new (first_at firsts_new s) (one_edge source number s ++ es)
-    by s l es c (inl e) = subst (λ (b : Bool). IsChain new (first_at firsts_new s) ((let es : List ℕ = if b then number ∷ [] else [] in es) ++ es)) (sym e.0) (first s es e.1 (omega (arith, l, e.1)) c)
-    by s l es c (inr e) = subst (λ (b : Bool). IsChain new (first_at firsts_new s) ((let es : List ℕ = if b then number ∷ [] else [] in es) ++ es)) (sym e.0) (other s es e.1 c)
+    by : (s : ℕ) → s < length firsts → (es : List ℕ) → IsRootChain roots (first_at firsts s) es → (((source == s) ≡ true) × (source ≡ s)) ⊎ (((source == s) ≡ false) × (source ≢ s)) → IsRootChain new (first_at firsts_new s) (one_edge source number s ++ es)
+    by s l es c (inl e) = subst (λ (b : Bool). IsRootChain new (first_at firsts_new s) ((let es : List ℕ = if b then number ∷ [] else [] in es) ++ es)) (sym e.0) (first s es e.1 (omega (arith, l, e.1)) c)
+    by s l es c (inr e) = subst (λ (b : Bool). IsRootChain new (first_at firsts_new s) ((let es : List ℕ = if b then number ∷ [] else [] in es) ++ es)) (sym e.0) (other s es e.1 c)
 
 -- ---- one side and one line
 
@@ -138,16 +138,16 @@ module _ (ts : List Triangle) (xs : List HalfEdge) where
       at false true e f = join (names_it o s) (names_it other s) false true e f refl
       at false false e f = join (names_it o s) (names_it other s) false false e f refl
 
-  pub line_apart : (l : Line) (s : ℕ) → l.solid ≡ false → (l.left ≡ l.right → ⊥) → side_edges ts xs l.right (edge l.a l.b) s ++ side_edges ts xs l.left (edge l.b l.a) s ≡ line_edges ts xs (Some l) s
+  pub line_apart : (l : Line) (s : ℕ) → l.solid ≡ false → (l.left ≡ l.right → ⊥) → side_edges ts xs l.right (edge l.a l.b) s ++ side_edges ts xs l.left (edge l.b l.a) s ≡ half_edges_of_line ts xs (Some l) s
   line_apart l s e n = sym (
       ap (λ (b : Bool). let us : List ℕ = if b then [] else (if names_it l.right s && not (names_it l.left s) then list_of (way_out_of ts xs s (edge l.a l.b)) else []) ++ (if names_it l.left s && not (names_it l.right s) then list_of (way_out_of ts xs s (edge l.b l.a)) else []) in us) e
       ∙ ap (λ (b : Bool). (let us : List ℕ = if b then list_of (way_out_of ts xs s (edge l.a l.b)) else [] in us) ++ (let vs : List ℕ = if names_it l.left s && not (names_it l.right s) then list_of (way_out_of ts xs s (edge l.b l.a)) else [] in vs)) (alone l.right l.left s (λ h. n (sym h)))
       ∙ ap (λ (b : Bool). side_edges ts xs l.right (edge l.a l.b) s ++ (let vs : List ℕ = if b then list_of (way_out_of ts xs s (edge l.b l.a)) else [] in vs)) (alone l.left l.right s n))
 
-  pub line_solid : (l : Line) (s : ℕ) → l.solid ≡ true → line_edges ts xs (Some l) s ≡ []
+  pub line_solid : (l : Line) (s : ℕ) → l.solid ≡ true → half_edges_of_line ts xs (Some l) s ≡ []
   line_solid l s e = ap (λ (b : Bool). let us : List ℕ = if b then [] else (if names_it l.right s && not (names_it l.left s) then list_of (way_out_of ts xs s (edge l.a l.b)) else []) ++ (if names_it l.left s && not (names_it l.right s) then list_of (way_out_of ts xs s (edge l.b l.a)) else []) in us) e
 
-  pub line_within : (l : Line) (s : ℕ) → l.left ≡ l.right → line_edges ts xs (Some l) s ≡ []
+  pub line_within : (l : Line) (s : ℕ) → l.left ≡ l.right → half_edges_of_line ts xs (Some l) s ≡ []
   line_within l s e = ap (λ (o : Option ℕ). let us : List ℕ = if l.solid then [] else (if names_it l.right s && not (names_it o s) then list_of (way_out_of ts xs s (edge l.a l.b)) else []) ++ (if names_it o s && not (names_it l.right s) then list_of (way_out_of ts xs s (edge l.b l.a)) else []) in us) e
       ∙ both l.solid (names_it l.right s) (list_of (way_out_of ts xs s (edge l.a l.b))) (list_of (way_out_of ts xs s (edge l.b l.a)))
     where
@@ -189,7 +189,7 @@ module _ (ts : List Triangle) (xs : List HalfEdge) (p : PlanParts) where
   left_portal is k l e = ap (option_map (λ (x : MapLine). let q : Portal = record { left = (line_edge (map_of p) x).to; right = (line_edge (map_of p) x).from } in q)) (plan_line_at p k l e)
       ∙ ap (λ (d : Edge). let q : Portal = record { left = d.to; right = d.from } in Some q) (line_edge_of_plan p is k l e)
 
-  line_part : IsPlan p → (s k : ℕ) (entry : Option Line) → slice_get p.lines k ≡ Some entry → filter_map (the_root s) (filter (is_root (map_of p) s) (both_sides (k, option_map (looked_up p.points) entry))) ≡ line_edges ts xs entry s
+  line_part : IsPlan p → (s k : ℕ) (entry : Option Line) → slice_get p.lines k ≡ Some entry → filter_map (the_root s) (filter (is_root (map_of p) s) (both_sides (k, option_map (looked_up p.points) entry))) ≡ half_edges_of_line ts xs entry s
   line_part is s k None e = refl
   line_part is s k (Some l) e =
       kept_one (the_root s) (is_root (map_of p) s) right (left ∷ [])
@@ -213,7 +213,7 @@ module _ (ts : List Triangle) (xs : List HalfEdge) (p : PlanParts) where
   abbrev pub roots_from : ℕ → ℕ → List ℕ
   roots_from s k = filter_map (the_root s) (filter (is_root (map_of p) s) (flat_map both_sides (enumerate_from k (map (option_map (looked_up p.points)) (drop k p.lines)))))
 
-  one_more : IsPlan p → (s k : ℕ) (entry : Option Line) → slice_get p.lines k ≡ Some entry → roots_from s k ≡ line_edges ts xs entry s ++ roots_from s (k + 1)
+  one_more : IsPlan p → (s k : ℕ) (entry : Option Line) → slice_get p.lines k ≡ Some entry → roots_from s k ≡ half_edges_of_line ts xs entry s ++ roots_from s (k + 1)
   one_more is s k entry e = ap (λ (ls : List (Option Line)). filter_map (the_root s) (filter (is_root (map_of p) s) (flat_map both_sides (enumerate_from k (map (option_map (looked_up p.points)) ls))))) (drop_at p.lines k entry e)
       ∙ ap (filter_map (the_root s)) (filter-append (is_root (map_of p) s) here behind)
       ∙ filter_map-append (the_root s) (filter (is_root (map_of p) s) here) (filter (is_root (map_of p) s) behind)
@@ -232,16 +232,16 @@ module _ (ts : List Triangle) (xs : List HalfEdge) (p : PlanParts) where
   -- each source has the roots on those lines
   pub record HasRootsFrom (k : ℕ) (roots : List Root) (firsts : List (Option ℕ)) : Type 0 where
     pub len : length firsts ≡ p.sectors
-    pub chains : (s : ℕ) → s < p.sectors → IsChain roots (first_at firsts s) (roots_from s k)
+    pub chains : (s : ℕ) → s < p.sectors → IsRootChain roots (first_at firsts s) (roots_from s k)
 
-  pub roots_more : IsPlan p → (k : ℕ) (entry : Option Line) (roots new : List Root) (firsts firsts_new : List (Option ℕ)) → slice_get p.lines k ≡ Some entry → HasRootsFrom (k + 1) roots firsts → PutsBefore (line_edges ts xs entry) roots firsts new firsts_new → HasRootsFrom k new firsts_new
+  pub roots_more : IsPlan p → (k : ℕ) (entry : Option Line) (roots new : List Root) (firsts firsts_new : List (Option ℕ)) → slice_get p.lines k ≡ Some entry → HasRootsFrom (k + 1) roots firsts → PutsBefore (half_edges_of_line ts xs entry) roots firsts new firsts_new → HasRootsFrom k new firsts_new
   roots_more is k entry roots new firsts firsts_new e h q = record {
     len = q.len ∙ h.len;
-    chains = λ s l. subst (IsChain new (first_at firsts_new s)) (sym (one_more is s k entry e)) (q.chains s (omega (arith, h.len, l)) (roots_from s (k + 1)) (h.chains s l));
+    chains = λ s l. subst (IsRootChain new (first_at firsts_new s)) (sym (one_more is s k entry e)) (q.chains s (omega (arith, h.len, l)) (roots_from s (k + 1)) (h.chains s l));
   }
 
   pub roots_none : (k : ℕ) (firsts : List (Option ℕ)) → length p.lines ≤ k → firsts ≡ replicate p.sectors None → HasRootsFrom k [] firsts
-  roots_none k firsts l e = record { len = ap length e ∙ length-replicate p.sectors None; chains = λ s h. subst (IsChain [] (first_at firsts s)) (sym (nothing s)) (none firsts s e) }
+  roots_none k firsts l e = record { len = ap length e ∙ length-replicate p.sectors None; chains = λ s h. subst (IsRootChain [] (first_at firsts s)) (sym (nothing s)) (none firsts s e) }
     where
       nothing : (s : ℕ) → roots_from s k ≡ []
       nothing s = ap (λ (ls : List (Option Line)). filter_map (the_root s) (filter (is_root (map_of p) s) (flat_map both_sides (enumerate_from k (map (option_map (looked_up p.points)) ls))))) (drop_all k p.lines l)
@@ -254,8 +254,8 @@ module _ (ts : List Triangle) (xs : List HalfEdge) (p : PlanParts) where
       none : (fs : List (Option ℕ)) (s : ℕ) → fs ≡ replicate p.sectors None → first_at fs s ≡ None
       none fs s h = ap (λ (gs : List (Option ℕ)). first_at gs s) h ∙ empty p.sectors s
 
-  pub roots_all : (k : ℕ) (roots : List Root) (firsts : List (Option ℕ)) → k ≡ 0 → HasRootsFrom k roots firsts → AreRoots (map_of p) ts xs roots firsts
-  roots_all k roots firsts e h = record { chains = λ s l. subst (λ (n : ℕ). IsChain roots (first_at firsts s) (roots_from s n)) e (h.chains s l) }
+  pub roots_all : (k : ℕ) (roots : List Root) (firsts : List (Option ℕ)) → k ≡ 0 → HasRootsFrom k roots firsts → AreRootChains (map_of p) ts xs roots firsts
+  roots_all k roots firsts e h = record { chains = λ s l. subst (λ (n : ℕ). IsRootChain roots (first_at firsts s) (roots_from s n)) e (h.chains s l) }
 
 pub if_ok : {A E : Type 0} {P Q : Type 0} (r : Result A E) → IfOk r (λ _. P) → (P → Q) → IfOk r (λ _. Q)
 if_ok (Ok a) p f = f p

@@ -16,7 +16,7 @@ use Rattle.geom_exact.proofs.ExtremeLines.EndsLemmas.{left_end, right_end}
 use Rattle.cert_checker.specs.declared.tree_judge.trees.Frame.{Frame}
 use Rattle.cert_checker.specs.TreeJudge.Path.{portal_ends, path_ends, AreStuckEnds}
 use Rattle.block_evidence.specs.declared.Evidence.{Evidence}
-use Rattle.block_evidence.specs.Stuck.{AreStuck, Blocks, end_codes}
+use Rattle.block_evidence.specs.Stuck.{AreStuck, BlocksEnds, end_codes}
 use Rattle.block_evidence.proofs.SightTree.ReadBack.{in_places}
 
 -- what is found where each code has its end
@@ -76,7 +76,7 @@ same_take xs n i l e = elim (cases_lt 4 n) as (λ _. take i xs ≡ take n xs) [
   | inr h ↦ ap (λ (k : ℕ). take k xs) (omega arith)
 ]
 
-pub blocks_if : (es : List EndPoints) (e : Evidence) (ends some : List EndAt) (i : ℕ) (b : Bool) → map Some (take i ends) ≡ map (end_of es) (take i e.ends) → length e.ends ≡ 4 → i ≡ min e.count 4 → some ≡ take i ends → (IsTrue b ↔ AreStuck some) → IsTrue b ↔ Blocks es e
+pub blocks_if : (es : List EndPoints) (e : Evidence) (ends some : List EndAt) (i : ℕ) (b : Bool) → map Some (take i ends) ≡ map (end_of es) (take i e.ends) → length e.ends ≡ 4 → i ≡ min e.count 4 → some ≡ take i ends → (IsTrue b ↔ AreStuck some) → IsTrue b ↔ BlocksEnds es e
 blocks_if es e ends some i b h l m t s = (λ n. record { ends = subst (AllByRecursion (λ code. IsSome (end_of es code))) q f.1; stuck = subst AreStuck (sym same) (s.0 n) }, λ k. s.1 (subst AreStuck same k.stuck))
   where
     f : (filter_map (end_of es) (take i e.ends) ≡ take i ends) × AllByRecursion (λ code. IsSome (end_of es code)) (take i e.ends)
@@ -90,7 +90,7 @@ blocks_if es e ends some i b h l m t s = (λ n. record { ends = subst (AllByRecu
 
 -- ---- four codes at once
 
-pub blocks_four : (es : List EndPoints) (e : Evidence) (a b c d : EndAt) → e.count ≡ 4 → length e.ends ≡ 4 → Some a ≡ end_of es (get_or e.ends 0 0) → Some b ≡ end_of es (get_or e.ends 1 0) → Some c ≡ end_of es (get_or e.ends 2 0) → Some d ≡ end_of es (get_or e.ends 3 0) → AreStuck (a ∷ b ∷ c ∷ d ∷ []) → Blocks es e
+pub blocks_four : (es : List EndPoints) (e : Evidence) (a b c d : EndAt) → e.count ≡ 4 → length e.ends ≡ 4 → Some a ≡ end_of es (get_or e.ends 0 0) → Some b ≡ end_of es (get_or e.ends 1 0) → Some c ≡ end_of es (get_or e.ends 2 0) → Some d ≡ end_of es (get_or e.ends 3 0) → AreStuck (a ∷ b ∷ c ∷ d ∷ []) → BlocksEnds es e
 blocks_four es e a b c d n l fa fb fc fd stuck = record { ends = f.1; stuck = subst AreStuck (sym f.0) stuck }
   where
     all : end_codes e ≡ get_or e.ends 0 0 ∷ get_or e.ends 1 0 ∷ get_or e.ends 2 0 ∷ get_or e.ends 3 0 ∷ []
@@ -100,12 +100,12 @@ blocks_four es e a b c d n l fa fb fc fd stuck = record { ends = f.1; stuck = su
     f = found_each es (end_codes e) (a ∷ b ∷ c ∷ d ∷ []) ((λ i. fa i ∷ fb i ∷ fc i ∷ fd i ∷ []) ∙ sym (ap (map (end_of es)) all))
 
 -- the same by the codes alone
-pub blocks_ends : (es : List EndPoints) (e : Evidence) → e.count ≡ 4 → length e.ends ≡ 4 → AreStuckEnds es (get_or e.ends 0 0) (get_or e.ends 1 0) (get_or e.ends 2 0) (get_or e.ends 3 0) → Blocks es e
+pub blocks_ends : (es : List EndPoints) (e : Evidence) → e.count ≡ 4 → length e.ends ≡ 4 → AreStuckEnds es (get_or e.ends 0 0) (get_or e.ends 1 0) (get_or e.ends 2 0) (get_or e.ends 3 0) → BlocksEnds es e
 blocks_ends es e n l (w, x, y, z, fw, fx, fy, fz, stuck) = blocks_four es e w x y z n l (sym fw) (sym fx) (sym fy) (sym fz) stuck
 
 -- evidence by its parts
-pub by_parts : (es : List EndPoints) (count : ℕ) (ends : List ℕ) (b : Bool) → (IsTrue b ↔ Blocks es (record { count = count; ends = ends })) → (e : Evidence) → e.count ≡ count → e.ends ≡ ends → IsTrue b ↔ Blocks es e
-by_parts es count ends b h e n m = subst (λ (k : ℕ). IsTrue b ↔ Blocks es (record { count = k; ends = e.ends })) (sym n) (subst (λ (xs : List ℕ). IsTrue b ↔ Blocks es (record { count = count; ends = xs })) (sym m) h)
+pub by_parts : (es : List EndPoints) (count : ℕ) (ends : List ℕ) (b : Bool) → (IsTrue b ↔ BlocksEnds es (record { count = count; ends = ends })) → (e : Evidence) → e.count ≡ count → e.ends ≡ ends → IsTrue b ↔ BlocksEnds es e
+by_parts es count ends b h e n m = subst (λ (k : ℕ). IsTrue b ↔ BlocksEnds es (record { count = k; ends = e.ends })) (sym n) (subst (λ (xs : List ℕ). IsTrue b ↔ BlocksEnds es (record { count = count; ends = xs })) (sym m) h)
 
-pub of_four : (es : List EndPoints) (e : Evidence) (b : Bool) → length e.ends ≡ 4 → ((g : Evidence) → g.count ≡ e.count → g.ends ≡ get_or e.ends 0 0 ∷ get_or e.ends 1 0 ∷ get_or e.ends 2 0 ∷ get_or e.ends 3 0 ∷ [] → IsTrue b ↔ Blocks es g) → IsTrue b ↔ Blocks es e
+pub of_four : (es : List EndPoints) (e : Evidence) (b : Bool) → length e.ends ≡ 4 → ((g : Evidence) → g.count ≡ e.count → g.ends ≡ get_or e.ends 0 0 ∷ get_or e.ends 1 0 ∷ get_or e.ends 2 0 ∷ get_or e.ends 3 0 ∷ [] → IsTrue b ↔ BlocksEnds es g) → IsTrue b ↔ BlocksEnds es e
 of_four es e b l h = h e refl (in_places e.ends l)

@@ -8,7 +8,7 @@ use Rattle.cert_checker.specs.declared.tree_judge.roots.Root.{Root}
 use Rattle.cert_checker.specs.declared.tree_judge.trees.Frame.{Frame}
 use Rattle.cert_checker.specs.declared.tree_judge.trees.Wait.{Wait}
 use Rattle.cert_checker.specs.declared.tree_judge.trees.Follow.{Follow}
-use Rattle.cert_checker.specs.TreeJudge.Path.{path_ends, ways_behind, IsChain, IsWaiting, Pending, pending_way, root_pending, IsAt, with_asked, EntersThrough, TakesNext}
+use Rattle.cert_checker.specs.TreeJudge.Path.{path_ends, ways_behind, IsRootChain, IsWaiting, Pending, pending_way, root_pending, IsWalkAt, with_asked, EntersThrough, TakesNext}
 use Rattle.cert_checker.specs.TreeJudge.Steps.{LetsWait}
 use Rattle.cert_checker.proofs.TreeJudge.Ways.{waiting_same, waits_at}
 use Rattle.math_base.proofs.Options.{some_is_not_none}
@@ -78,7 +78,7 @@ module _ (xs : List HalfEdge) (roots : List Root) (source : ℕ) (path : List Fr
     next = λ es ws c h n. record {
       es = es;
       ways = waits_behind ++ ws;
-      chain = subst (λ (o : Option ℕ). IsChain roots o es) (sym w.root) c;
+      chain = subst (λ (o : Option ℕ). IsRootChain roots o es) (sym w.root) c;
       waiting = w.waiting path ws near n h;
       nested = let a : g.waiting ≤ f.depth + 1 = w.nested n in omega (arith, a, w.depth);
       all = first (ws ++ map root_pending es) ∙ ap (λ (us : List Pending). let u : Pending = record { path = path_ends (take (f.depth + 1) path); edge = left } in u ∷ us) (sym (append_assoc waits_behind ws (map root_pending es))) ∙ ap (λ (d : ℕ). let u : Pending = record { path = path_ends (take (d + 1) path); edge = left } in u ∷ ((waits_behind ++ ws) ++ map root_pending es)) (sym w.depth);
@@ -93,7 +93,7 @@ module _ (xs : List HalfEdge) (roots : List Root) (source : ℕ) (path : List Fr
   -- or the last one that waits, or a root
   pub enters_by_next : (new : Follow) (asked : Option ℕ) → f.depth < length path → LetsWait xs source x waits f waits_new g → None ≡ way_outside xs source x.left_way → TakesNext roots path waits_new g new asked → EntersThrough xs roots source path waits f x waits_new new asked
   enters_by_next new asked near w l t = record {
-    next = λ es ws c h n. subst (IsAt roots path waits_new (with_asked new asked)) (append_assoc waits_behind ws (map root_pending es) ∙ ap (λ (o : Option ℕ). (pending_way (path_ends (take (f.depth + 1) path)) o ++ waits_behind) ++ (ws ++ map root_pending es)) l)
-        (t.next es (waits_behind ++ ws) (subst (λ (o : Option ℕ). IsChain roots o es) (sym w.root) c) (w.waiting path ws near n h));
+    next = λ es ws c h n. subst (IsWalkAt roots path waits_new (with_asked new asked)) (append_assoc waits_behind ws (map root_pending es) ∙ ap (λ (o : Option ℕ). (pending_way (path_ends (take (f.depth + 1) path)) o ++ waits_behind) ++ (ws ++ map root_pending es)) l)
+        (t.next es (waits_behind ++ ws) (subst (λ (o : Option ℕ). IsRootChain roots o es) (sym w.root) c) (w.waiting path ws near n h));
     depth = λ n. let a : g.waiting ≤ f.depth + 1 = w.nested n in let d : new.depth ≤ g.waiting = t.depth in omega (arith, a, d);
   }

@@ -5,7 +5,7 @@ use Rattle.block_evidence.specs.declared.sight_tree.Node.{Node}
 use Rattle.block_evidence.specs.declared.sight_tree.Node.TheVariants.{Open, Blocked}
 use Rattle.mesh_shape.specs.declared.half_edges.table.HalfEdge.{HalfEdge}
 use Rattle.cert_checker.specs.TreeJudge.Path.{Pending, list_of}
-use Rattle.cert_checker.specs.TreeJudge.Whole.{ways_through, Answers, AreAnswered}
+use Rattle.cert_checker.specs.TreeJudge.Whole.{ways_through, AnswersFirst, AreAnswered}
 
 module _ (xs : List HalfEdge) (source : ℕ) where
   first_same : (p q : Pending) (ps qs us : List Pending) → us ≡ p ∷ ps → us ≡ q ∷ qs → p ≡ q
@@ -18,7 +18,7 @@ module _ (xs : List HalfEdge) (source : ℕ) where
   one_same x y o e f = cc
 
   -- what is asked behind the node, and what it enters
-  pub one_answer : (n : Node) (ps qs us : List Pending) (here there : List ℕ) → Answers xs source ps n qs here → Answers xs source ps n us there → (qs ≡ us) × (here ≡ there)
+  pub one_answer : (n : Node) (ps qs us : List Pending) (here there : List ℕ) → AnswersFirst xs source ps n qs here → AnswersFirst xs source ps n us there → (qs ≡ us) × (here ≡ there)
   one_answer Open ps qs us here there (p, rest, x, first, is, e, f) (q, more, y, also, this, g, h) = (
     e ∙ (λ i. ways_through xs source (same i) (found i) ++ rest_same p q rest more ps first also i) ∙ sym g,
     f ∙ ap (λ (z : HalfEdge). list_of z.sector) found ∙ sym h,

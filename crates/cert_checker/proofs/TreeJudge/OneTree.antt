@@ -14,19 +14,19 @@ use Rattle.sight_names.specs.Sequence.{Portal, apex as apex_of, entry_edge, name
 use Rattle.mesh_base.proofs.GoodMesh.{some_position, same_or_not, found_at}
 use Rattle.block_evidence.specs.declared.sight_tree.Node.{Node}
 use Rattle.block_evidence.specs.declared.sight_tree.Node.TheVariants.{Open, Blocked}
-use Rattle.block_evidence.specs.Stuck.{Blocks}
+use Rattle.block_evidence.specs.Stuck.{BlocksEnds}
 use Rattle.block_evidence.specs.declared.sight_tree.Tree.{Tree}
 use Rattle.cert_format.specs.Parts.{CertParts}
 use Rattle.cert_format.specs.Accepted.{triangles_of, labels_of}
 use Rattle.mesh_shape.specs.declared.half_edges.table.HalfEdge.{HalfEdge}
-use Rattle.mesh_shape.specs.HalfEdges.Numbers.{edge, corner_of, number_of}
+use Rattle.mesh_shape.specs.HalfEdges.Numbers.{edge, corner_of, half_edge_number}
 use Rattle.mesh_shape.specs.HalfEdges.Kinds.{portal_on}
-use Rattle.mesh_shape.specs.HalfEdges.HalfEdges.{portal_of, entering, way_outside, IsHalfEdge, AreHalfEdges}
+use Rattle.mesh_shape.specs.HalfEdges.HalfEdges.{portal_into, entering, way_outside, IsHalfEdge, AreHalfEdges}
 use Rattle.mesh_shape.proofs.HalfEdges.Numbers.{number_at}
 use Rattle.mesh_shape.proofs.HalfEdges.Reached.{reached, not_reached}
 use Rattle.cert_checker.specs.TreeJudge.Path.{Pending, pending_way, root_pending, list_of}
 use Rattle.cert_checker.specs.TreeJudge.Roots.{way_out_of, root_edge, root_edges}
-use Rattle.cert_checker.specs.TreeJudge.Whole.{ends_through, ways_through, Answers, AreAnswered, IsFirstWrong}
+use Rattle.cert_checker.specs.TreeJudge.Whole.{ends_through, ways_through, AnswersFirst, AreAnswered, IsFirstWrongNode}
 use Rattle.cert_checker.specs.TreeJudge.Trees.{IsFirstTreeNotWhole}
 use Rattle.cert_checker.proofs.TreeJudge.OneAnswer.{one_answer}
 use Rattle.math_base.proofs.Numbers.{tells_other, tells_same, below_same_or_above}
@@ -57,7 +57,7 @@ module _ (m : Map) (ts : List Triangle) (ls : List (Option ℕ)) (good : IsGoodM
   at_corner k c d e = ap (λ (n : ℕ). let o : Option ℕ = Some (k * 3 + n) in o) e
 
   -- each number of the three of a triangle is that of an edge
-  number_there : (k c : ℕ) (t : Triangle) → slice_get ts k ≡ Some t → c < 3 → (e : Edge) × (number_of ts e ≡ Some (k * 3 + c))
+  number_there : (k c : ℕ) (t : Triangle) → slice_get ts k ≡ Some t → c < 3 → (e : Edge) × (half_edge_number ts e ≡ Some (k * 3 + c))
   number_there k zero t is l = (edge t.p t.q, number_at ts (edge t.p t.q) k t (found_there k t (edge t.p t.q) is (edge_pq t)) is ∙ at_corner k (corner_of (edge t.p t.q) t) 0 (ap (λ (b : Bool). let n : ℕ = if b then 0 else (if t.q == t.p then 1 else 2) in n) (tells_same t.p t.p refl)))
   number_there k (suc zero) t is l = (edge t.q t.r, number_at ts (edge t.q t.r) k t (found_there k t (edge t.q t.r) is (edge_qr t)) is ∙ at_corner k (corner_of (edge t.q t.r) t) 1 (ap (λ (b : Bool). let n : ℕ = if b then 0 else (if t.q == t.q then 1 else 2) in n) (tells_other t.p t.q (λ e. let n = (good.plain.triangles.each k t is).least in omega (arith, n, e))) ∙ ap (λ (b : Bool). let n : ℕ = if b then 1 else 2 in n) (tells_same t.q t.q refl)))
   number_there k (suc (suc zero)) t is l = (edge t.r t.p, number_at ts (edge t.r t.p) k t (found_there k t (edge t.r t.p) is (edge_rp t)) is ∙ at_corner k (corner_of (edge t.r t.p) t) 2 (ap (λ (b : Bool). let n : ℕ = if b then 0 else (if t.q == t.r then 1 else 2) in n) (tells_other t.p t.r (λ e. let n = (good.plain.triangles.each k t is).least_too in omega (arith, n, e))) ∙ ap (λ (b : Bool). let n : ℕ = if b then 1 else 2 in n) (tells_other t.q t.r (good.plain.triangles.each k t is).differ)))
@@ -67,7 +67,7 @@ module _ (m : Map) (ts : List Triangle) (ls : List (Option ℕ)) (good : IsGoodM
   parts_of : (i n : ℕ) → i < n * 3 → (k : ℕ) × (c : ℕ) × (k < n) × (c < 3) × (i ≡ k * 3 + c)
   parts_of i n l = (i / 3, i % 3, omega arith, omega arith, omega arith)
 
-  pub edge_of_number : (i : ℕ) → i < length ts * 3 → (e : Edge) × (number_of ts e ≡ Some i)
+  pub edge_of_number : (i : ℕ) → i < length ts * 3 → (e : Edge) × (half_edge_number ts e ≡ Some i)
   edge_of_number i l =
       let p = parts_of i (length ts) l in
       let t = get_there ts p.0 p.2 in
@@ -92,7 +92,7 @@ plain_outside xs source (Some i) = ap (option_and_then (λ (x : HalfEdge). let o
     same (Some x) = refl
 
 plain_entering : (ts : List Triangle) (xs : List HalfEdge) (e : Edge) → entering ts (map plain xs) e ≡ entering ts xs e
-plain_entering ts xs e = at (number_of ts e)
+plain_entering ts xs e = at (half_edge_number ts e)
   where
     into : List HalfEdge → ℕ → Option ℕ
     into ys i = option_and_then (λ (x : HalfEdge). let o : Option ℕ = if x.solid then None else Some i in o) (slice_get ys i)
@@ -109,7 +109,7 @@ module _ (xs : List HalfEdge) (source : ℕ) where
   plain_ways : (p : Pending) (x : HalfEdge) → ways_through (map plain xs) source p (plain x) ≡ ways_through xs source p x
   plain_ways p x = λ i. pending_way (ends_through p x) (plain_outside xs source x.left_way i) ++ pending_way (ends_through p x) (plain_outside xs source x.right_way i)
 
-  to_plain : (n : Node) (ps qs : List Pending) (here : List ℕ) → Answers xs source ps n qs here → Answers (map plain xs) source ps n qs here
+  to_plain : (n : Node) (ps qs : List Pending) (here : List ℕ) → AnswersFirst xs source ps n qs here → AnswersFirst (map plain xs) source ps n qs here
   to_plain Open ps qs here (p, rest, x, first, is, e, f) = (p, rest, plain x, first, plain_at xs p.edge ∙ ap (option_map plain) is, e ∙ ap (λ (us : List Pending). us ++ rest) (sym (plain_ways p x)), f)
   to_plain (Blocked d) ps qs here (p, rest, x, first, is, blocks, e, f) = (p, rest, plain x, first, plain_at xs p.edge ∙ ap (option_map plain) is, blocks, e, f)
 
@@ -121,21 +121,21 @@ module _ (xs : List HalfEdge) (source : ℕ) where
       by None h q = absurd (none-some y q)
       by (Some x) h q = (x, h, sym (same_Some (plain x) y q))
 
-  from_plain : (n : Node) (ps qs : List Pending) (here : List ℕ) → Answers (map plain xs) source ps n qs here → Answers xs source ps n qs here
+  from_plain : (n : Node) (ps qs : List Pending) (here : List ℕ) → AnswersFirst (map plain xs) source ps n qs here → AnswersFirst xs source ps n qs here
   from_plain Open ps qs here (p, rest, y, first, is, e, f) = on (back_at p.edge y is)
     where
-      on : (x : HalfEdge) × (slice_get xs p.edge ≡ Some x) × (y ≡ plain x) → Answers xs source ps Open qs here
+      on : (x : HalfEdge) × (slice_get xs p.edge ≡ Some x) × (y ≡ plain x) → AnswersFirst xs source ps Open qs here
       on (x, at, q) = (p, rest, x, first, at, e ∙ ap (λ (z : HalfEdge). ways_through (map plain xs) source p z ++ rest) q ∙ ap (λ (us : List Pending). us ++ rest) (plain_ways p x), f ∙ ap (λ (z : HalfEdge). list_of z.sector) q)
   from_plain (Blocked d) ps qs here (p, rest, y, first, is, blocks, e, f) = on (back_at p.edge y is)
     where
-      on : (x : HalfEdge) × (slice_get xs p.edge ≡ Some x) × (y ≡ plain x) → Answers xs source ps (Blocked d) qs here
-      on (x, at, q) = (p, rest, x, first, at, subst (λ (z : HalfEdge). Blocks (ends_through p z) d) q blocks, e, f)
+      on : (x : HalfEdge) × (slice_get xs p.edge ≡ Some x) × (y ≡ plain x) → AnswersFirst xs source ps (Blocked d) qs here
+      on (x, at, q) = (p, rest, x, first, at, subst (λ (z : HalfEdge). BlocksEnds (ends_through p z) d) q blocks, e, f)
 
   all_plain : (ns : List Node) (ps qs : List Pending) (sectors : List ℕ) → AreAnswered xs source ps ns qs sectors → AreAnswered (map plain xs) source ps ns qs sectors
   all_plain [] ps qs sectors f = f
   all_plain (n ∷ ns) ps qs sectors (rs, here, more, answer, behind, e) = (rs, here, more, to_plain n ps rs here answer, all_plain ns rs qs more behind, e)
 
-  first_plain : (ps : List Pending) (ns : List Node) (k : ℕ) → IsFirstWrong xs source ps ns k → IsFirstWrong (map plain xs) source ps ns k
+  first_plain : (ps : List Pending) (ns : List Node) (k : ℕ) → IsFirstWrongNode xs source ps ns k → IsFirstWrongNode (map plain xs) source ps ns k
   first_plain ps ns k f = record {
     left = f.left;
     sectors = f.sectors;
@@ -166,7 +166,7 @@ module _ (m : Map) (ts : List Triangle) (ls : List (Option ℕ)) (good : IsGoodM
       (one_solid x.solid y.solid refl refl)
       (f.left_way ∙ ways (edge x.left x.apex) ∙ (λ i. entering ts ys (edge (left i) (apex i))) ∙ sym g.left_way) (f.right_way ∙ ways (edge x.apex x.right) ∙ (λ i. entering ts ys (edge (apex i) (right i))) ∙ sym g.right_way)
     where
-      portals : portal_of x ≡ portal_of y
+      portals : portal_into x ≡ portal_into y
       portals = f.portal ∙ sym g.portal
 
       left : x.left ≡ y.left
@@ -184,11 +184,11 @@ module _ (m : Map) (ts : List Triangle) (ls : List (Option ℕ)) (good : IsGoodM
       place_of : (a b : ℕ) → a ≡ b → place (map_of p) a ≡ place (map_of q) b
       place_of a b h = λ i. place ((of_p ∙ sym of_q) i) (h i)
 
-      solid_to : IsSolidLine (map_of p) (portal_of x) → IsSolidLine (map_of q) (portal_of y)
-      solid_to s = subst (λ (r : Portal). IsSolidLine (map_of q) r) portals (subst (λ (n : Map). IsSolidLine n (portal_of x)) (of_p ∙ sym of_q) s)
+      solid_to : IsSolidLine (map_of p) (portal_into x) → IsSolidLine (map_of q) (portal_into y)
+      solid_to s = subst (λ (r : Portal). IsSolidLine (map_of q) r) portals (subst (λ (n : Map). IsSolidLine n (portal_into x)) (of_p ∙ sym of_q) s)
 
-      solid_back : IsSolidLine (map_of q) (portal_of y) → IsSolidLine (map_of p) (portal_of x)
-      solid_back s = subst (λ (r : Portal). IsSolidLine (map_of p) r) (sym portals) (subst (λ (n : Map). IsSolidLine n (portal_of y)) (of_q ∙ sym of_p) s)
+      solid_back : IsSolidLine (map_of q) (portal_into y) → IsSolidLine (map_of p) (portal_into x)
+      solid_back s = subst (λ (r : Portal). IsSolidLine (map_of p) r) (sym portals) (subst (λ (n : Map). IsSolidLine n (portal_into y)) (of_q ∙ sym of_p) s)
 
       one_solid : (b c : Bool) → x.solid ≡ b → y.solid ≡ c → x.solid ≡ y.solid
       one_solid true c h k = h ∙ sym (g.solid.1 (solid_to (f.solid.0 h)))
@@ -239,17 +239,17 @@ module _ (m : Map) (ts : List Triangle) (ls : List (Option ℕ)) (good : IsGoodM
 module _ (xs : List HalfEdge) (source : ℕ) where
   -- a node that is answered isn't the first wrong one
   not_yet : (ns : List Node) (j k : ℕ) (ps left last : List Pending) (some all : List ℕ) → j < k → k ≤ length ns → AreAnswered xs source ps (take j ns) left some → AreAnswered xs source ps (take k ns) last all
-      → ((n : Node) → slice_get ns j ≡ Some n → (qs : List Pending) (here : List ℕ) → ¬ Answers xs source left n qs here) → ⊥
+      → ((n : Node) → slice_get ns j ≡ Some n → (qs : List Pending) (here : List ℕ) → ¬ AnswersFirst xs source left n qs here) → ⊥
   not_yet [] j k ps left last some all l few before whole wrong = omega (arith, l, few)
   not_yet (n ∷ ns) j zero ps left last some all l few before whole wrong = omega (arith, l)
-  not_yet (n ∷ ns) zero (suc k) ps left last some all l few before (rs, here, more, answer, behind, e) wrong = wrong n refl rs here (subst (λ (us : List Pending). Answers xs source us n rs here) (sym before.0) answer)
+  not_yet (n ∷ ns) zero (suc k) ps left last some all l few before (rs, here, more, answer, behind, e) wrong = wrong n refl rs here (subst (λ (us : List Pending). AnswersFirst xs source us n rs here) (sym before.0) answer)
   not_yet (n ∷ ns) (suc j) (suc k) ps left last some all l few (us, there, others, first, before, f) (rs, here, more, answer, behind, e) wrong =
       not_yet ns j k us left last others more (omega (arith, l)) (omega (arith, few)) before (subst (λ (qs : List Pending). AreAnswered xs source qs (take k ns) last more) (one_answer xs source n ps rs us here there answer first).0 behind) wrong
 
-  no_later : (ps : List Pending) (ns : List Node) (j k : ℕ) → j < k → IsFirstWrong xs source ps ns j → IsFirstWrong xs source ps ns k → ⊥
+  no_later : (ps : List Pending) (ns : List Node) (j k : ℕ) → j < k → IsFirstWrongNode xs source ps ns j → IsFirstWrongNode xs source ps ns k → ⊥
   no_later ps ns j k l f g = not_yet ns j k ps f.left g.left f.sectors g.sectors l g.within f.before g.before f.wrong
 
-  one_first_wrong : (ps : List Pending) (ns : List Node) (j k : ℕ) → IsFirstWrong xs source ps ns j → IsFirstWrong xs source ps ns k → j ≡ k
+  one_first_wrong : (ps : List Pending) (ns : List Node) (j k : ℕ) → IsFirstWrongNode xs source ps ns j → IsFirstWrongNode xs source ps ns k → j ≡ k
   one_first_wrong ps ns j k f g = by (below_same_or_above j k)
     where
       by : (j < k) ⊎ (j ≡ k) ⊎ (k < j) → j ≡ k
@@ -275,10 +275,10 @@ module _ (m : Map) (c : CertParts) (good : IsGoodMesh m (triangles_of c) (labels
 
           -- made plain, the two tell of one list
           IsNode : ℕ → List HalfEdge → Tree → Type 0
-          IsNode n xs x = IsFirstWrong xs x.source (map root_pending (root_edges (triangles_of c) xs m x.source)) x.nodes n
+          IsNode n xs x = IsFirstWrongNode xs x.source (map root_pending (root_edges (triangles_of c) xs m x.source)) x.nodes n
 
           plainly : (n : ℕ) (xs : List HalfEdge) (x : Tree) → IsNode n xs x → IsNode n (map plain xs) x
-          plainly n xs x h = subst (λ (es : List ℕ). IsFirstWrong (map plain xs) x.source (map root_pending es) x.nodes n) (sym (plain_roots m (triangles_of c) xs x.source)) (first_plain xs x.source (map root_pending (root_edges (triangles_of c) xs m x.source)) x.nodes n h)
+          plainly n xs x h = subst (λ (es : List ℕ). IsFirstWrongNode (map plain xs) x.source (map root_pending es) x.nodes n) (sym (plain_roots m (triangles_of c) xs x.source)) (first_plain xs x.source (map root_pending (root_edges (triangles_of c) xs m x.source)) x.nodes n h)
 
           moved : IsNode j (map plain f.edges) f.tree
           moved = subst (IsNode j (map plain f.edges)) same (subst (λ (xs : List HalfEdge). IsNode j xs g.tree) edges (plainly j g.edges g.tree g.node))

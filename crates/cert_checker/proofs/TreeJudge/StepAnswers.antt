@@ -4,7 +4,7 @@ use Rattle.std.specs.List.{slice_get}
 use Rattle.std.proofs.lemmas.Option.{slice_get_within}
 use Rattle.sight_names.specs.Splitting.{EndPoints}
 use Rattle.block_evidence.specs.declared.Evidence.{Evidence}
-use Rattle.block_evidence.specs.Stuck.{Blocks}
+use Rattle.block_evidence.specs.Stuck.{BlocksEnds}
 use Rattle.block_evidence.specs.declared.sight_tree.Node.{Node}
 use Rattle.block_evidence.specs.declared.sight_tree.Node.TheVariants.{Open, Blocked}
 use Rattle.reject_bits.specs.Parts.{TableParts}
@@ -15,7 +15,7 @@ use Rattle.cert_checker.specs.declared.tree_judge.trees.Frame.{Frame}
 use Rattle.cert_checker.specs.declared.tree_judge.trees.Wait.{Wait}
 use Rattle.cert_checker.specs.declared.tree_judge.trees.Follow.{Follow}
 use Rattle.cert_checker.specs.TreeJudge.Path.{path_ends, edge_ends, PutsAt, with_asked, TakesNext, EntersThrough}
-use Rattle.cert_checker.specs.TreeJudge.Steps.{told, step_ends, AreSteps, IsStep, NotesCode}
+use Rattle.cert_checker.specs.TreeJudge.Steps.{code_told, step_ends, AreSteps, IsStepOf, NotesCode}
 use Rattle.cert_checker.specs.TreeJudge.Walked.{FollowsAt}
 use Rattle.cert_checker.specs.TreeJudge.Whole.{HasAnswered, HasRefused}
 use Rattle.cert_checker.proofs.TreeJudge.Following.{opened, blocked, refused_ends}
@@ -26,27 +26,27 @@ module _ (xs : List HalfEdge) (roots : List Root) (source : ℕ) (steps : List S
   near : asked < 4294967296
   near = let l : asked < length steps = slice_get_within steps asked s there in omega (arith, l, few)
 
-  found : (x : HalfEdge) × (slice_get xs asked ≡ Some x) × IsStep xs x s
+  found : (x : HalfEdge) × (slice_get xs asked ≡ Some x) × IsStepOf xs x s
   found = step_at xs steps asked s are (omega (arith, near)) there
 
   put_edge : PutsAt path at.depth (edge_ends found.0) middle
   put_edge = subst (λ (es : EndPoints). PutsAt path at.depth es middle) (let e : step_ends s ≡ edge_ends found.0 = λ i. record { left = found.2.left_at i; right = found.2.right_at i } in e) put
 
   -- an open node
-  pub opened_by_step : (new : List Wait) (g : Follow) (next : ℕ) (t u : TableParts) → ((x : HalfEdge) → IsStep xs x s → EntersThrough xs roots source middle waits at x new g (told next)) → NotesCode source s.sector t u
-      → HasAnswered xs roots source Open path waits (with_asked at (told asked)) t middle new (with_asked g (told next)) u
+  pub opened_by_step : (new : List Wait) (g : Follow) (next : ℕ) (t u : TableParts) → ((x : HalfEdge) → IsStepOf xs x s → EntersThrough xs roots source middle waits at x new g (code_told next)) → NotesCode source s.sector t u
+      → HasAnswered xs roots source Open path waits (with_asked at (code_told asked)) t middle new (with_asked g (code_told next)) u
   opened_by_step new g next t u enters notes =
       let way = enters found.0 found.2 in
-      opened xs roots source path waits (with_asked at (told asked)) middle new asked g (told next) found.0 t u (told_is asked near) found.1 put_edge (record { next = way.next; depth = way.depth }) (notes found.0.sector found.2.sector found.2.below)
+      opened xs roots source path waits (with_asked at (code_told asked)) middle new asked g (code_told next) found.0 t u (told_is asked near) found.1 put_edge (record { next = way.next; depth = way.depth }) (notes found.0.sector found.2.sector found.2.below)
 
   -- a blocked one
-  pub blocked_by_step : (g : Follow) (next : ℕ) (e : Evidence) (t : TableParts) → Blocks (path_ends (take (at.depth + 1) middle)) e → TakesNext roots middle waits at g (told next)
-      → HasAnswered xs roots source (Blocked e) path waits (with_asked at (told asked)) t middle waits (with_asked g (told next)) t
-  blocked_by_step g next e t blocks takes = blocked xs roots source path waits (with_asked at (told asked)) middle asked g (told next) found.0 e t (told_is asked near) found.1 put_edge blocks (record { next = takes.next; depth = takes.depth })
+  pub blocked_by_step : (g : Follow) (next : ℕ) (e : Evidence) (t : TableParts) → BlocksEnds (path_ends (take (at.depth + 1) middle)) e → TakesNext roots middle waits at g (code_told next)
+      → HasAnswered xs roots source (Blocked e) path waits (with_asked at (code_told asked)) t middle waits (with_asked g (code_told next)) t
+  blocked_by_step g next e t blocks takes = blocked xs roots source path waits (with_asked at (code_told asked)) middle asked g (code_told next) found.0 e t (told_is asked near) found.1 put_edge blocks (record { next = takes.next; depth = takes.depth })
 
   -- one whose ends show nothing
-  pub refused_by_step : (e : Evidence) → (IsTrue false ↔ Blocks (path_ends (take (at.depth + 1) middle)) e) → HasRefused xs roots source (Blocked e) path waits (with_asked at (told asked))
-  refused_by_step e fails = refused_ends xs roots source path waits (with_asked at (told asked)) middle asked found.0 e (told_is asked near) found.1 put_edge fails
+  pub refused_by_step : (e : Evidence) → (IsTrue false ↔ BlocksEnds (path_ends (take (at.depth + 1) middle)) e) → HasRefused xs roots source (Blocked e) path waits (with_asked at (code_told asked))
+  refused_by_step e fails = refused_ends xs roots source path waits (with_asked at (code_told asked)) middle asked found.0 e (told_is asked near) found.1 put_edge fails
 
 -- ---- nodes one behind the other
 

@@ -16,13 +16,13 @@ use Rattle.math_base.proofs.Lists.{contains_none, length_pushed, get_pushed, get
 use Rattle.cert_checker.specs.declared.tree_judge.hearing.TreeJudge.{TreeJudge}
 use Rattle.cert_checker.specs.declared.tree_judge.roots.Root.{Root}
 use Rattle.cert_checker.specs.declared.tree_judge.roots.Roots.{Roots}
-use Rattle.cert_checker.specs.TreeJudge.Heard.{IsTreeCounted, AreTreesCounted, AreNoted, IsUnderWay, IsOpenWrong, IsJudged, HasHeardTrees}
-use Rattle.cert_checker.specs.TreeJudge.Marks.{IsMarked, Marks, HasNoMark}
+use Rattle.cert_checker.specs.TreeJudge.Heard.{IsTreeCounted, AreTreesCounted, AreTreesNoted, IsTreeUnderWay, IsOpenWrong, IsTreeJudged, HasHeardTrees}
+use Rattle.cert_checker.specs.TreeJudge.Marks.{IsFlagSet, Marks, HasNoMark}
 use Rattle.cert_checker.specs.TreeJudge.Path.{Pending, root_pending}
-use Rattle.cert_checker.specs.TreeJudge.Roots.{first_at, root_edges, AreRoots}
+use Rattle.cert_checker.specs.TreeJudge.Roots.{first_at, root_edges, AreRootChains}
 use Rattle.cert_checker.specs.TreeJudge.Steps.{AreSteps}
-use Rattle.cert_checker.specs.TreeJudge.Walked.{begun, with_nodes, IsWalked}
-use Rattle.cert_checker.specs.TreeJudge.Whole.{Answers, AreAnswered, IsFirstWrong, Notes, IsFirstWrongFrom, IsFirstWrongTree, IsWholeFrom, IsWholeOver, HasTreeAway, HasTreeInto, HasNoBit}
+use Rattle.cert_checker.specs.TreeJudge.Walked.{begun, with_nodes, IsTreeWalked}
+use Rattle.cert_checker.specs.TreeJudge.Whole.{AnswersFirst, AreAnswered, IsFirstWrongNode, Notes, IsFirstWrongFrom, IsFirstWrongTree, IsWholeFrom, IsWholeOver, HasTreeAway, HasTreeInto, HasNoBit}
 
 -- ---- trees that can be counted
 
@@ -46,7 +46,7 @@ counted_ended n front o all = subst (AreTreesCounted n) (append-nil (front ++ op
 -- ---- a first wrong node stays the first
 
 -- whatever node comes behind it
-pub still_first : (xs : List HalfEdge) (source : ℕ) (ps : List Pending) (ns : List Node) (n : Node) (k : ℕ) → k < length ns → IsFirstWrong xs source ps ns k → IsFirstWrong xs source ps (ns ++ n ∷ []) k
+pub still_first : (xs : List HalfEdge) (source : ℕ) (ps : List Pending) (ns : List Node) (n : Node) (k : ℕ) → k < length ns → IsFirstWrongNode xs source ps ns k → IsFirstWrongNode xs source ps (ns ++ n ∷ []) k
 still_first xs source ps ns n k l w = record {
   left = w.left;
   sectors = w.sectors;
@@ -59,15 +59,15 @@ still_first xs source ps ns n k l w = record {
     long : length (ns ++ n ∷ []) ≡ length ns + 1
     long = length_pushed ns n
 
-    there : (x : Node) → (slice_get ns k ≡ Some x) ⊎ ((k ≡ length ns) × (n ≡ x)) → (qs : List Pending) (here : List ℕ) → ¬ Answers xs source w.left x qs here
+    there : (x : Node) → (slice_get ns k ≡ Some x) ⊎ ((k ≡ length ns) × (n ≡ x)) → (qs : List Pending) (here : List ℕ) → ¬ AnswersFirst xs source w.left x qs here
     there x (inl e) qs here answer = w.wrong x e qs here answer
     there x (inr h) qs here answer = let e : k ≡ length ns = h.0 in omega (arith, e, l)
 
-pub still_first_of : (xs : List HalfEdge) (source : ℕ) (ps : List Pending) (ns more : List Node) (k : ℕ) → k < length ns → IsFirstWrong xs source ps ns k → IsFirstWrong xs source ps (ns ++ more) k
-still_first_of xs source ps ns [] k l w = subst (λ (us : List Node). IsFirstWrong xs source ps us k) (sym (append-nil ns)) w
+pub still_first_of : (xs : List HalfEdge) (source : ℕ) (ps : List Pending) (ns more : List Node) (k : ℕ) → k < length ns → IsFirstWrongNode xs source ps ns k → IsFirstWrongNode xs source ps (ns ++ more) k
+still_first_of xs source ps ns [] k l w = subst (λ (us : List Node). IsFirstWrongNode xs source ps us k) (sym (append-nil ns)) w
 still_first_of xs source ps ns (n ∷ more) k l w =
     let long : length (ns ++ n ∷ []) ≡ length ns + 1 = length_pushed ns n in
-    subst (λ (us : List Node). IsFirstWrong xs source ps us k) (append_assoc ns (n ∷ []) more) (still_first_of xs source ps (ns ++ n ∷ []) more k (omega (arith, long, l)) (still_first xs source ps ns n k l w))
+    subst (λ (us : List Node). IsFirstWrongNode xs source ps us k) (append_assoc ns (n ∷ []) more) (still_first_of xs source ps (ns ++ n ∷ []) more k (omega (arith, long, l)) (still_first xs source ps ns n k l w))
 
 module _ (m : Map) (ts : List Triangle) (xs : List HalfEdge) where
   -- whatever tree comes behind it
@@ -88,7 +88,7 @@ module _ (m : Map) (ts : List Triangle) (xs : List HalfEdge) where
 
   -- the open tree has a wrong node, and all before it are whole
   pub last_is_first : (front : List Tree) (t : Tree) (k : ℕ) → ((u : Tree) → Contains front u → (sectors : List ℕ) × IsWholeOver m ts xs u sectors)
-      → IsFirstWrong xs t.source (map root_pending (root_edges ts xs m t.source)) t.nodes k → IsFirstWrongTree m ts xs (front ++ t ∷ []) t.source k
+      → IsFirstWrongNode xs t.source (map root_pending (root_edges ts xs m t.source)) t.nodes k → IsFirstWrongTree m ts xs (front ++ t ∷ []) t.source k
   last_is_first front t k whole wrong = record {
     place = length front;
     tree = t;
@@ -117,7 +117,7 @@ module _ (m : Map) (ts : List Triangle) (xs : List HalfEdge) where
 
   -- ---- trees that are whole
 
-  pub none_noted : (walked : List Bool) (reached : TableParts) → HasNoMark m.sectors walked → HasNoBit reached → reached.n ≡ m.sectors → AreNoted m ts xs [] walked reached
+  pub none_noted : (walked : List Bool) (reached : TableParts) → HasNoMark m.sectors walked → HasNoBit reached → reached.n ≡ m.sectors → AreTreesNoted m ts xs [] walked reached
   none_noted walked reached none unset size = record {
     unmarked = walked;
     clear = reached;
@@ -130,11 +130,11 @@ module _ (m : Map) (ts : List Triangle) (xs : List HalfEdge) where
   }
 
   -- one more is whole
-  pub one_more_noted : (front : List Tree) (t : Tree) (roots : List Root) (firsts : List (Option ℕ)) (w w_new : List Bool) (r r_new : TableParts) → AreRoots m ts xs roots firsts → t.source < m.sectors
-      → AreNoted m ts xs front w r → IsWholeFrom xs roots (first_at firsts t.source) t r r_new → Marks (Some t.source) w w_new → AreNoted m ts xs (front ++ t ∷ []) w_new r_new
+  pub one_more_noted : (front : List Tree) (t : Tree) (roots : List Root) (firsts : List (Option ℕ)) (w w_new : List Bool) (r r_new : TableParts) → AreRootChains m ts xs roots firsts → t.source < m.sectors
+      → AreTreesNoted m ts xs front w r → IsWholeFrom xs roots (first_at firsts t.source) t r r_new → Marks (Some t.source) w w_new → AreTreesNoted m ts xs (front ++ t ∷ []) w_new r_new
   one_more_noted front t roots firsts w w_new r r_new are low f g marks = go (g.whole (root_edges ts xs m t.source) (are.chains t.source low))
     where
-      go : (sectors : List ℕ) × AreAnswered xs t.source (map root_pending (root_edges ts xs m t.source)) t.nodes [] sectors × Notes t.source sectors r r_new → AreNoted m ts xs (front ++ t ∷ []) w_new r_new
+      go : (sectors : List ℕ) × AreAnswered xs t.source (map root_pending (root_edges ts xs m t.source)) t.nodes [] sectors × Notes t.source sectors r r_new → AreTreesNoted m ts xs (front ++ t ∷ []) w_new r_new
       go (sectors, answered, notes) = record {
         unmarked = f.unmarked;
         clear = f.clear;
@@ -150,7 +150,7 @@ module _ (m : Map) (ts : List Triangle) (xs : List HalfEdge) where
           each u (inl h) = f.over.each u h
           each u (inr e) = subst (λ (v : Tree). (sectors : List ℕ) × IsWholeOver m ts xs v sectors) e (sectors, answered)
 
-          marked : (u : Tree) → Contains front u ⊎ (t ≡ u) → u.source < length f.unmarked → IsMarked w_new u.source
+          marked : (u : Tree) → Contains front u ⊎ (t ≡ u) → u.source < length f.unmarked → IsFlagSet w_new u.source
           marked u (inl h) l = (marks.flags u.source (omega (arith, l, f.marks, f.none.len))).1 (inl (f.over.marked u h l))
           marked u (inr e) l = (marks.flags u.source (omega (arith, l, f.marks, f.none.len))).1 (inr (ap (λ (v : Tree). let o : Option ℕ = Some v.source in o) e))
 
@@ -170,20 +170,20 @@ module _ (m : Map) (ts : List Triangle) (xs : List HalfEdge) where
               by (inl h) = elim (f.over.entered a b la lb h) as (λ _. Rejects f.clear a b ⊎ HasTreeInto m ts xs (front ++ t ∷ []) a b) [ inl s ↦ inl s | inr s ↦ inr (into a b s) ]
               by (inr h) = inr (t, sectors, Contains-push front t, sym h.0, answered, h.1)
 
-          away : (a b : ℕ) → a < f.clear.n → b < f.clear.n → IsMarked w_new a → ¬ Rejects r_new a b → IsMarked f.unmarked a ⊎ HasTreeAway m ts xs (front ++ t ∷ []) a b
+          away : (a b : ℕ) → a < f.clear.n → b < f.clear.n → IsFlagSet w_new a → ¬ Rejects r_new a b → IsFlagSet f.unmarked a ⊎ HasTreeAway m ts xs (front ++ t ∷ []) a b
           away a b la lb n clear = by ((marks.flags a (let l : a < length w_new = slice_get_within w_new a true n in omega (arith, l, marks.len))).0 n)
             where
               bits : (Rejects r_new a b → Rejects r a b ⊎ ((a ≡ t.source) × Contains sectors b)) × (Rejects r a b ⊎ ((a ≡ t.source) × Contains sectors b) → Rejects r_new a b)
               bits = notes.bits a b (within a la) (within b lb)
 
-              by : IsMarked w a ⊎ (◌≡◌ {A = Option ℕ} (Some t.source) (Some a)) → IsMarked f.unmarked a ⊎ HasTreeAway m ts xs (front ++ t ∷ []) a b
-              by (inl h) = elim (f.over.away a b la lb h (λ s. clear (bits.1 (inl s)))) as (λ _. IsMarked f.unmarked a ⊎ HasTreeAway m ts xs (front ++ t ∷ []) a b) [ inl s ↦ inl s | inr s ↦ inr (apart a b s) ]
+              by : IsFlagSet w a ⊎ (◌≡◌ {A = Option ℕ} (Some t.source) (Some a)) → IsFlagSet f.unmarked a ⊎ HasTreeAway m ts xs (front ++ t ∷ []) a b
+              by (inl h) = elim (f.over.away a b la lb h (λ s. clear (bits.1 (inl s)))) as (λ _. IsFlagSet f.unmarked a ⊎ HasTreeAway m ts xs (front ++ t ∷ []) a b) [ inl s ↦ inl s | inr s ↦ inr (apart a b s) ]
               by (inr e) = inr (t, sectors, Contains-push front t, same_Some t.source a e, answered, λ c. clear (bits.1 (inr (sym (same_Some t.source a e), c))))
 
   -- ---- the judge
 
   -- a tree is under way, or none is
-  pub is_under_way : (front : List Tree) (o : Option Tree) (j : TreeJudge) (w : Option (ℕ × ℕ)) → j.under_way ≡ true → IsJudged m ts xs front o j w → (t : Tree) × (o ≡ Some t) × (w ≡ None) × IsUnderWay m ts xs front t j
+  pub is_under_way : (front : List Tree) (o : Option Tree) (j : TreeJudge) (w : Option (ℕ × ℕ)) → j.under_way ≡ true → IsTreeJudged m ts xs front o j w → (t : Tree) × (o ≡ Some t) × (w ≡ None) × IsTreeUnderWay m ts xs front t j
   is_under_way front o j (Some w) going h = absurd (let e : j.under_way ≡ false = h.0 in cc)
   is_under_way front None j None going h = absurd (let e : j.under_way ≡ false = h.0 in cc)
   is_under_way front (Some t) j None going h = (t, refl, refl, h)
@@ -194,13 +194,13 @@ module _ (m : Map) (ts : List Triangle) (xs : List HalfEdge) where
   ended_wrong front o s k (inr h) = open_is_first front o s k h
 
   -- nothing was under way, and nothing is when the tree has ended
-  pub stays_ended : (front : List Tree) (o : Option Tree) (j : TreeJudge) (w : Option (ℕ × ℕ)) → j.under_way ≡ false → IsJudged m ts xs front o j w → IsJudged m ts xs (front ++ option_to_list o) None j w
+  pub stays_ended : (front : List Tree) (o : Option Tree) (j : TreeJudge) (w : Option (ℕ × ℕ)) → j.under_way ≡ false → IsTreeJudged m ts xs front o j w → IsTreeJudged m ts xs (front ++ option_to_list o) None j w
   stays_ended front o j (Some w) ended h = (h.0, inl (ended_wrong front o w.0 w.1 h.1))
-  stays_ended front None j None ended h = (h.0, subst (λ (us : List Tree). AreNoted m ts xs us j.walked.items j.reached) (sym (append-nil front)) h.1)
+  stays_ended front None j None ended h = (h.0, subst (λ (us : List Tree). AreTreesNoted m ts xs us j.walked.items j.reached) (sym (append-nil front)) h.1)
   stays_ended front (Some t) j None ended h = absurd (let e : j.under_way ≡ true = h.going in cc)
 
   -- nothing was under way, and nodes come
-  stays_judged : (front : List Tree) (o : Option Tree) (ns : List Node) (j : TreeJudge) (w : Option (ℕ × ℕ)) → j.under_way ≡ false → IsJudged m ts xs front o j w → IsJudged m ts xs front (option_map (with_nodes ns) o) j w
+  stays_judged : (front : List Tree) (o : Option Tree) (ns : List Node) (j : TreeJudge) (w : Option (ℕ × ℕ)) → j.under_way ≡ false → IsTreeJudged m ts xs front o j w → IsTreeJudged m ts xs front (option_map (with_nodes ns) o) j w
   stays_judged front o ns j (Some w) ended h = (h.0, elim h.1 as (λ _. IsFirstWrongTree m ts xs front w.0 w.1 ⊎ IsOpenWrong m ts xs front (option_map (with_nodes ns) o) w.0 w.1) [ inl f ↦ inl f | inr f ↦ inr (wrong_with_nodes front o ns w.0 w.1 f) ])
   stays_judged front None ns j None ended h = h
   stays_judged front (Some t) ns j None ended h = absurd (let e : j.under_way ≡ true = h.going in cc)
@@ -209,116 +209,116 @@ module _ (m : Map) (ts : List Triangle) (xs : List HalfEdge) where
   stays_with_nodes front o ns j ended h = record { roots = h.roots; steps = h.steps; judged = λ all. stays_judged front o ns j j.wrong ended (h.judged (counted_less m.sectors front ns o all)) }
 
   -- nothing was under way, and a tree begins behind a wrong one
-  pub begins_behind_wrong : (front : List Tree) (t : Tree) (j : TreeJudge) (w : ℕ × ℕ) → IsJudged m ts xs front None j (Some w) → IsJudged m ts xs front (Some t) j (Some w)
+  pub begins_behind_wrong : (front : List Tree) (t : Tree) (j : TreeJudge) (w : ℕ × ℕ) → IsTreeJudged m ts xs front None j (Some w) → IsTreeJudged m ts xs front (Some t) j (Some w)
   begins_behind_wrong front t j w h = (h.0, inl (elim h.1 as (λ _. IsFirstWrongTree m ts xs front w.0 w.1) [ inl f ↦ f | inr f ↦ absurd (let e : ◌≡◌ {A = Option Tree} None (Some f.tree) = f.is in cc) ]))
 
   -- the open tree is whole
-  pub ends_whole : (front : List Tree) (t : Tree) (j : TreeJudge) (source : ℕ) (walked_new : List Bool) → AreRoots m ts xs j.roots.roots.items j.roots.first.items → t.source < m.sectors → IsUnderWay m ts xs front t j
-      → ((old : TableParts) → IsWalked xs j.roots.roots.items j.roots.first.items t old j.reached j.walk → IsWholeFrom xs j.roots.roots.items (first_at j.roots.first.items t.source) t old j.reached)
-      → source ≡ j.walk.source → Marks (Some source) j.walked.items walked_new → AreNoted m ts xs (front ++ t ∷ []) walked_new j.reached
+  pub ends_whole : (front : List Tree) (t : Tree) (j : TreeJudge) (source : ℕ) (walked_new : List Bool) → AreRootChains m ts xs j.roots.roots.items j.roots.first.items → t.source < m.sectors → IsTreeUnderWay m ts xs front t j
+      → ((old : TableParts) → IsTreeWalked xs j.roots.roots.items j.roots.first.items t old j.reached j.walk → IsWholeFrom xs j.roots.roots.items (first_at j.roots.first.items t.source) t old j.reached)
+      → source ≡ j.walk.source → Marks (Some source) j.walked.items walked_new → AreTreesNoted m ts xs (front ++ t ∷ []) walked_new j.reached
   ends_whole front t j source walked_new are low u whole e marks = one_more_noted front t j.roots.roots.items j.roots.first.items j.walked.items walked_new u.begun j.reached are low u.noted (whole u.begun u.walked)
       (subst (λ (s : ℕ). Marks (Some s) j.walked.items walked_new) (e ∙ u.walked.source_is) marks)
 
   -- or a node of it is missing
-  pub ends_wrong : (front : List Tree) (t : Tree) (j : TreeJudge) (source number : ℕ) → AreRoots m ts xs j.roots.roots.items j.roots.first.items → t.source < m.sectors → IsUnderWay m ts xs front t j
-      → ((old : TableParts) → IsWalked xs j.roots.roots.items j.roots.first.items t old j.reached j.walk → IsFirstWrongFrom xs j.roots.roots.items (first_at j.roots.first.items t.source) t (length t.nodes))
+  pub ends_wrong : (front : List Tree) (t : Tree) (j : TreeJudge) (source number : ℕ) → AreRootChains m ts xs j.roots.roots.items j.roots.first.items → t.source < m.sectors → IsTreeUnderWay m ts xs front t j
+      → ((old : TableParts) → IsTreeWalked xs j.roots.roots.items j.roots.first.items t old j.reached j.walk → IsFirstWrongFrom xs j.roots.roots.items (first_at j.roots.first.items t.source) t (length t.nodes))
       → source ≡ j.walk.source → number ≡ j.number → IsFirstWrongTree m ts xs (front ++ t ∷ []) source number
   ends_wrong front t j source number are low u wrong e f = subst (λ (s : ℕ). IsFirstWrongTree m ts xs (front ++ t ∷ []) s number) (sym (e ∙ u.walked.source_is)) (subst (IsFirstWrongTree m ts xs (front ++ t ∷ []) t.source) (sym (f ∙ u.number))
       (last_is_first front t (length t.nodes) u.noted.over.each ((wrong u.begun u.walked).wrong (root_edges ts xs m t.source) (are.chains t.source low))))
 
   -- the last of the next nodes of the open tree is wrong
-  pub hears_wrong : (front : List Tree) (t : Tree) (ns : List Node) (j : TreeJudge) (source number : ℕ) → AreRoots m ts xs j.roots.roots.items j.roots.first.items → t.source < m.sectors → IsUnderWay m ts xs front t j → 0 < length ns
-      → ((old : TableParts) → IsWalked xs j.roots.roots.items j.roots.first.items t old j.reached j.walk → IsFirstWrongFrom xs j.roots.roots.items (first_at j.roots.first.items t.source) (with_nodes ns t) (length t.nodes + length ns - 1))
+  pub hears_wrong : (front : List Tree) (t : Tree) (ns : List Node) (j : TreeJudge) (source number : ℕ) → AreRootChains m ts xs j.roots.roots.items j.roots.first.items → t.source < m.sectors → IsTreeUnderWay m ts xs front t j → 0 < length ns
+      → ((old : TableParts) → IsTreeWalked xs j.roots.roots.items j.roots.first.items t old j.reached j.walk → IsFirstWrongFrom xs j.roots.roots.items (first_at j.roots.first.items t.source) (with_nodes ns t) (length t.nodes + length ns - 1))
       → source ≡ j.walk.source → number ≡ length t.nodes + length ns - 1 → IsOpenWrong m ts xs front (Some (with_nodes ns t)) source number
   hears_wrong front t ns j source number are low u some wrong e f = record {
     tree = with_nodes ns t;
     is = refl;
     of = sym (e ∙ u.walked.source_is);
     there = let h : length (t.nodes ++ ns) ≡ length t.nodes + length ns = length-append t.nodes ns in omega (arith, h, f, some);
-    wrong = subst (IsFirstWrong xs t.source (map root_pending (root_edges ts xs m t.source)) (t.nodes ++ ns)) (sym f) ((wrong u.begun u.walked).wrong (root_edges ts xs m t.source) (are.chains t.source low));
+    wrong = subst (IsFirstWrongNode xs t.source (map root_pending (root_edges ts xs m t.source)) (t.nodes ++ ns)) (sym f) ((wrong u.begun u.walked).wrong (root_edges ts xs m t.source) (are.chains t.source low));
     before = u.noted.over.each;
   }
 
   -- all of them answer
-  pub hears_right : (front : List Tree) (t : Tree) (ns : List Node) (j k : TreeJudge) → IsUnderWay m ts xs front t j → k.under_way ≡ true → k.walked.items ≡ j.walked.items
-      → ((old : TableParts) → IsWalked xs j.roots.roots.items j.roots.first.items t old j.reached j.walk → IsWalked xs k.roots.roots.items k.roots.first.items (with_nodes ns t) old k.reached k.walk)
-      → k.number ≡ length (t.nodes ++ ns) → IsUnderWay m ts xs front (with_nodes ns t) k
+  pub hears_right : (front : List Tree) (t : Tree) (ns : List Node) (j k : TreeJudge) → IsTreeUnderWay m ts xs front t j → k.under_way ≡ true → k.walked.items ≡ j.walked.items
+      → ((old : TableParts) → IsTreeWalked xs j.roots.roots.items j.roots.first.items t old j.reached j.walk → IsTreeWalked xs k.roots.roots.items k.roots.first.items (with_nodes ns t) old k.reached k.walk)
+      → k.number ≡ length (t.nodes ++ ns) → IsTreeUnderWay m ts xs front (with_nodes ns t) k
   hears_right front t ns j k u going marks walked count = record {
     going = going;
     begun = u.begun;
-    noted = subst (λ (ws : List Bool). AreNoted m ts xs front ws u.begun) (sym marks) u.noted;
+    noted = subst (λ (ws : List Bool). AreTreesNoted m ts xs front ws u.begun) (sym marks) u.noted;
     walked = walked u.begun u.walked;
     number = count;
   }
 
   -- a tree begins, where a tree that has ended was wrong
-  pub begins_where_wrong : (front : List Tree) (t : Tree) (j : TreeJudge) (w : Option (ℕ × ℕ)) → true ≡ is_some w → IsJudged m ts xs front None j w → IsJudged m ts xs front (Some t) j w
+  pub begins_where_wrong : (front : List Tree) (t : Tree) (j : TreeJudge) (w : Option (ℕ × ℕ)) → true ≡ is_some w → IsTreeJudged m ts xs front None j w → IsTreeJudged m ts xs front (Some t) j w
   begins_where_wrong front t j (Some w) some h = begins_behind_wrong front t j w h
   begins_where_wrong front t j None some h = absurd (cc)
 
   -- where none was
-  pub judged_under_way : (front : List Tree) (t : Tree) (k : TreeJudge) (w : Option (ℕ × ℕ)) → w ≡ None → IsUnderWay m ts xs front t k → IsJudged m ts xs front (Some t) k w
-  judged_under_way front t k w e u = subst (λ (o : Option (ℕ × ℕ)). IsJudged m ts xs front (Some t) k o) (sym e) u
+  pub judged_under_way : (front : List Tree) (t : Tree) (k : TreeJudge) (w : Option (ℕ × ℕ)) → w ≡ None → IsTreeUnderWay m ts xs front t k → IsTreeJudged m ts xs front (Some t) k w
+  judged_under_way front t k w e u = subst (λ (o : Option (ℕ × ℕ)). IsTreeJudged m ts xs front (Some t) k o) (sym e) u
 
-  pub noted_where_none : (front : List Tree) (j : TreeJudge) (w : Option (ℕ × ℕ)) → w ≡ None → IsJudged m ts xs front None j w → AreNoted m ts xs front j.walked.items j.reached
-  noted_where_none front j w e h = (subst (λ (o : Option (ℕ × ℕ)). IsJudged m ts xs front None j o) e h).1
+  pub noted_where_none : (front : List Tree) (j : TreeJudge) (w : Option (ℕ × ℕ)) → w ≡ None → IsTreeJudged m ts xs front None j w → AreTreesNoted m ts xs front j.walked.items j.reached
+  noted_where_none front j w e h = (subst (λ (o : Option (ℕ × ℕ)). IsTreeJudged m ts xs front None j o) e h).1
 
   -- ---- from what was heard to what is heard then
 
   under_way_now : (front : List Tree) (o : Option Tree) (j : TreeJudge) → HasHeardTrees m ts xs front o j → j.under_way ≡ true → AreTreesCounted m.sectors (front ++ option_to_list o)
-      → (t : Tree) × (o ≡ Some t) × (j.wrong ≡ None) × IsUnderWay m ts xs front t j × IsTreeCounted m.sectors t
+      → (t : Tree) × (o ≡ Some t) × (j.wrong ≡ None) × IsTreeUnderWay m ts xs front t j × IsTreeCounted m.sectors t
   under_way_now front o j h going all = go (is_under_way front o j j.wrong going (h.judged all))
     where
-      go : (t : Tree) × (o ≡ Some t) × (j.wrong ≡ None) × IsUnderWay m ts xs front t j → (t : Tree) × (o ≡ Some t) × (j.wrong ≡ None) × IsUnderWay m ts xs front t j × IsTreeCounted m.sectors t
+      go : (t : Tree) × (o ≡ Some t) × (j.wrong ≡ None) × IsTreeUnderWay m ts xs front t j → (t : Tree) × (o ≡ Some t) × (j.wrong ≡ None) × IsTreeUnderWay m ts xs front t j × IsTreeCounted m.sectors t
       go (t, e, w, u) = (t, e, w, u, counted_last m.sectors front t (subst (λ (p : Option Tree). AreTreesCounted m.sectors (front ++ option_to_list p)) e all))
 
   -- the open tree ends, and it is whole
   pub end_whole : (front : List Tree) (o : Option Tree) (j k : TreeJudge) (source : ℕ) (now flags : List Bool) → HasHeardTrees m ts xs front o j → j.under_way ≡ true
-      → ((t : Tree) (old : TableParts) → IsWalked xs j.roots.roots.items j.roots.first.items t old j.reached j.walk → IsWholeFrom xs j.roots.roots.items (first_at j.roots.first.items t.source) t old j.reached)
+      → ((t : Tree) (old : TableParts) → IsTreeWalked xs j.roots.roots.items j.roots.first.items t old j.reached j.walk → IsWholeFrom xs j.roots.roots.items (first_at j.roots.first.items t.source) t old j.reached)
       → source ≡ j.walk.source → now ≡ j.walked.items → Marks (Some source) now flags
       → k.roots ≡ j.roots → k.steps.items ≡ j.steps.items → k.walked.items ≡ flags → k.reached ≡ j.reached → k.under_way ≡ false → k.wrong ≡ j.wrong → HasHeardTrees m ts xs (front ++ option_to_list o) None k
   end_whole front o j k source now flags h going whole e f marks same_roots same_steps same_flags same_bits ended same_wrong = record {
-    roots = subst (λ (r : Roots). AreRoots m ts xs r.roots.items r.first.items) (sym same_roots) h.roots;
+    roots = subst (λ (r : Roots). AreRootChains m ts xs r.roots.items r.first.items) (sym same_roots) h.roots;
     steps = subst (AreSteps xs) (sym same_steps) h.steps;
     judged = λ all. go (under_way_now front o j h going (counted_ended m.sectors front o all));
   }
     where
-      go : (t : Tree) × (o ≡ Some t) × (j.wrong ≡ None) × IsUnderWay m ts xs front t j × IsTreeCounted m.sectors t → IsJudged m ts xs (front ++ option_to_list o) None k k.wrong
-      go (t, is, none, u, counted) = subst (λ (w : Option (ℕ × ℕ)). IsJudged m ts xs (front ++ option_to_list o) None k w) (sym (same_wrong ∙ none)) (ended, noted)
+      go : (t : Tree) × (o ≡ Some t) × (j.wrong ≡ None) × IsTreeUnderWay m ts xs front t j × IsTreeCounted m.sectors t → IsTreeJudged m ts xs (front ++ option_to_list o) None k k.wrong
+      go (t, is, none, u, counted) = subst (λ (w : Option (ℕ × ℕ)). IsTreeJudged m ts xs (front ++ option_to_list o) None k w) (sym (same_wrong ∙ none)) (ended, noted)
         where
-          noted : AreNoted m ts xs (front ++ option_to_list o) k.walked.items k.reached
-          noted = subst (λ (p : Option Tree). AreNoted m ts xs (front ++ option_to_list p) k.walked.items k.reached) (sym is) (subst (λ (ws : List Bool). AreNoted m ts xs (front ++ t ∷ []) ws k.reached) (sym same_flags) (subst (AreNoted m ts xs (front ++ t ∷ []) flags) (sym same_bits)
+          noted : AreTreesNoted m ts xs (front ++ option_to_list o) k.walked.items k.reached
+          noted = subst (λ (p : Option Tree). AreTreesNoted m ts xs (front ++ option_to_list p) k.walked.items k.reached) (sym is) (subst (λ (ws : List Bool). AreTreesNoted m ts xs (front ++ t ∷ []) ws k.reached) (sym same_flags) (subst (AreTreesNoted m ts xs (front ++ t ∷ []) flags) (sym same_bits)
               (ends_whole front t j source flags h.roots counted.source u (whole t) e (subst (λ (ws : List Bool). Marks (Some source) ws flags) f marks))))
 
   -- a node of it is missing
   pub end_wrong : (front : List Tree) (o : Option Tree) (j k : TreeJudge) (source number : ℕ) → HasHeardTrees m ts xs front o j → j.under_way ≡ true
-      → ((t : Tree) (old : TableParts) → IsWalked xs j.roots.roots.items j.roots.first.items t old j.reached j.walk → IsFirstWrongFrom xs j.roots.roots.items (first_at j.roots.first.items t.source) t (length t.nodes))
+      → ((t : Tree) (old : TableParts) → IsTreeWalked xs j.roots.roots.items j.roots.first.items t old j.reached j.walk → IsFirstWrongFrom xs j.roots.roots.items (first_at j.roots.first.items t.source) t (length t.nodes))
       → source ≡ j.walk.source → number ≡ j.number → k.roots ≡ j.roots → k.steps.items ≡ j.steps.items → k.under_way ≡ false → k.wrong ≡ Some (source, number) → HasHeardTrees m ts xs (front ++ option_to_list o) None k
   end_wrong front o j k source number h going wrong e f same_roots same_steps ended is_wrong = record {
-    roots = subst (λ (r : Roots). AreRoots m ts xs r.roots.items r.first.items) (sym same_roots) h.roots;
+    roots = subst (λ (r : Roots). AreRootChains m ts xs r.roots.items r.first.items) (sym same_roots) h.roots;
     steps = subst (AreSteps xs) (sym same_steps) h.steps;
     judged = λ all. go (under_way_now front o j h going (counted_ended m.sectors front o all));
   }
     where
-      go : (t : Tree) × (o ≡ Some t) × (j.wrong ≡ None) × IsUnderWay m ts xs front t j × IsTreeCounted m.sectors t → IsJudged m ts xs (front ++ option_to_list o) None k k.wrong
-      go (t, is, none, u, counted) = subst (λ (w : Option (ℕ × ℕ)). IsJudged m ts xs (front ++ option_to_list o) None k w) (sym is_wrong) (ended, inl first)
+      go : (t : Tree) × (o ≡ Some t) × (j.wrong ≡ None) × IsTreeUnderWay m ts xs front t j × IsTreeCounted m.sectors t → IsTreeJudged m ts xs (front ++ option_to_list o) None k k.wrong
+      go (t, is, none, u, counted) = subst (λ (w : Option (ℕ × ℕ)). IsTreeJudged m ts xs (front ++ option_to_list o) None k w) (sym is_wrong) (ended, inl first)
         where
           first : IsFirstWrongTree m ts xs (front ++ option_to_list o) source number
           first = subst (λ (p : Option Tree). IsFirstWrongTree m ts xs (front ++ option_to_list p) source number) (sym is) (ends_wrong front t j source number h.roots counted.source u (wrong t) e f)
 
   -- the next nodes answer
   pub hear_right : (front : List Tree) (o : Option Tree) (ns : List Node) (j k : TreeJudge) → HasHeardTrees m ts xs front o j → j.under_way ≡ true
-      → ((t : Tree) (old : TableParts) → IsWalked xs j.roots.roots.items j.roots.first.items t old j.reached j.walk → IsWalked xs j.roots.roots.items j.roots.first.items (with_nodes ns t) old k.reached k.walk)
+      → ((t : Tree) (old : TableParts) → IsTreeWalked xs j.roots.roots.items j.roots.first.items t old j.reached j.walk → IsTreeWalked xs j.roots.roots.items j.roots.first.items (with_nodes ns t) old k.reached k.walk)
       → ((n : ℕ) → j.number ≡ n → n + length ns < 2 ^ 64 → k.number ≡ n + length ns) → k.roots ≡ j.roots → k.steps.items ≡ j.steps.items → k.walked.items ≡ j.walked.items → k.under_way ≡ true → k.wrong ≡ j.wrong → HasHeardTrees m ts xs front (option_map (with_nodes ns) o) k
   hear_right front o ns j k h going walked count same_roots same_steps marks goes same_wrong = record {
-    roots = subst (λ (r : Roots). AreRoots m ts xs r.roots.items r.first.items) (sym same_roots) h.roots;
+    roots = subst (λ (r : Roots). AreRootChains m ts xs r.roots.items r.first.items) (sym same_roots) h.roots;
     steps = subst (AreSteps xs) (sym same_steps) h.steps;
     judged = λ all. go all (under_way_now front o j h going (counted_less m.sectors front ns o all));
   }
     where
-      go : AreTreesCounted m.sectors (front ++ option_to_list (option_map (with_nodes ns) o)) → (t : Tree) × (o ≡ Some t) × (j.wrong ≡ None) × IsUnderWay m ts xs front t j × IsTreeCounted m.sectors t → IsJudged m ts xs front (option_map (with_nodes ns) o) k k.wrong
-      go all (t, is, none, u, counted) = subst (λ (p : Option Tree). IsJudged m ts xs front (option_map (with_nodes ns) p) k k.wrong) (sym is) (judged_under_way front (with_nodes ns t) k k.wrong (same_wrong ∙ none)
-          (hears_right front t ns j k u goes marks (λ old w. subst (λ (r : Roots). IsWalked xs r.roots.items r.first.items (with_nodes ns t) old k.reached k.walk) (sym same_roots) (walked t old w)) number))
+      go : AreTreesCounted m.sectors (front ++ option_to_list (option_map (with_nodes ns) o)) → (t : Tree) × (o ≡ Some t) × (j.wrong ≡ None) × IsTreeUnderWay m ts xs front t j × IsTreeCounted m.sectors t → IsTreeJudged m ts xs front (option_map (with_nodes ns) o) k k.wrong
+      go all (t, is, none, u, counted) = subst (λ (p : Option Tree). IsTreeJudged m ts xs front (option_map (with_nodes ns) p) k k.wrong) (sym is) (judged_under_way front (with_nodes ns t) k k.wrong (same_wrong ∙ none)
+          (hears_right front t ns j k u goes marks (λ old w. subst (λ (r : Roots). IsTreeWalked xs r.roots.items r.first.items (with_nodes ns t) old k.reached k.walk) (sym same_roots) (walked t old w)) number))
         where
           long : length (t.nodes ++ ns) ≡ length t.nodes + length ns
           long = length-append t.nodes ns
@@ -331,16 +331,16 @@ module _ (m : Map) (ts : List Triangle) (xs : List HalfEdge) where
 
   -- the last of them doesn't
   pub hear_wrong : (front : List Tree) (o : Option Tree) (ns : List Node) (j k : TreeJudge) (source number : ℕ) → HasHeardTrees m ts xs front o j → j.under_way ≡ true → 0 < length ns
-      → ((t : Tree) (old : TableParts) → IsWalked xs j.roots.roots.items j.roots.first.items t old j.reached j.walk → IsFirstWrongFrom xs j.roots.roots.items (first_at j.roots.first.items t.source) (with_nodes ns t) (length t.nodes + length ns - 1))
+      → ((t : Tree) (old : TableParts) → IsTreeWalked xs j.roots.roots.items j.roots.first.items t old j.reached j.walk → IsFirstWrongFrom xs j.roots.roots.items (first_at j.roots.first.items t.source) (with_nodes ns t) (length t.nodes + length ns - 1))
       → source ≡ j.walk.source → ((n : ℕ) → j.number ≡ n → n + length ns < 2 ^ 64 → number ≡ n + length ns - 1) → k.roots ≡ j.roots → k.steps.items ≡ j.steps.items → k.under_way ≡ false → k.wrong ≡ Some (source, number) → HasHeardTrees m ts xs front (option_map (with_nodes ns) o) k
   hear_wrong front o ns j k source number h going some wrong e f same_roots same_steps ended is_wrong = record {
-    roots = subst (λ (r : Roots). AreRoots m ts xs r.roots.items r.first.items) (sym same_roots) h.roots;
+    roots = subst (λ (r : Roots). AreRootChains m ts xs r.roots.items r.first.items) (sym same_roots) h.roots;
     steps = subst (AreSteps xs) (sym same_steps) h.steps;
     judged = λ all. go all (under_way_now front o j h going (counted_less m.sectors front ns o all));
   }
     where
-      go : AreTreesCounted m.sectors (front ++ option_to_list (option_map (with_nodes ns) o)) → (t : Tree) × (o ≡ Some t) × (j.wrong ≡ None) × IsUnderWay m ts xs front t j × IsTreeCounted m.sectors t → IsJudged m ts xs front (option_map (with_nodes ns) o) k k.wrong
-      go all (t, is, none, u, counted) = subst (λ (w : Option (ℕ × ℕ)). IsJudged m ts xs front (option_map (with_nodes ns) o) k w) (sym is_wrong)
+      go : AreTreesCounted m.sectors (front ++ option_to_list (option_map (with_nodes ns) o)) → (t : Tree) × (o ≡ Some t) × (j.wrong ≡ None) × IsTreeUnderWay m ts xs front t j × IsTreeCounted m.sectors t → IsTreeJudged m ts xs front (option_map (with_nodes ns) o) k k.wrong
+      go all (t, is, none, u, counted) = subst (λ (w : Option (ℕ × ℕ)). IsTreeJudged m ts xs front (option_map (with_nodes ns) o) k w) (sym is_wrong)
           (ended, inr (subst (λ (p : Option Tree). IsOpenWrong m ts xs front (option_map (with_nodes ns) p) source number) (sym is) (hears_wrong front t ns j source number h.roots counted.source u some (wrong t) e (f (length t.nodes) u.number few))))
         where
           few : length t.nodes + length ns < 2 ^ 64
@@ -351,16 +351,16 @@ module _ (m : Map) (ts : List Triangle) (xs : List HalfEdge) where
 
   -- a tree begins behind trees none of which is wrong
   pub begin_right : (front : List Tree) (source : ℕ) (j k : TreeJudge) → HasHeardTrees m ts xs front None j → j.wrong ≡ None
-      → ((old : TableParts) → IsWalked xs j.roots.roots.items j.roots.first.items (begun source) old old k.walk)
+      → ((old : TableParts) → IsTreeWalked xs j.roots.roots.items j.roots.first.items (begun source) old old k.walk)
       → k.number ≡ 0 → k.roots ≡ j.roots → k.steps.items ≡ j.steps.items → k.walked.items ≡ j.walked.items → k.reached ≡ j.reached → k.under_way ≡ true → k.wrong ≡ j.wrong → HasHeardTrees m ts xs front (Some (begun source)) k
   begin_right front source j k h none walked zero same_roots same_steps marks bits goes same_wrong = record {
-    roots = subst (λ (r : Roots). AreRoots m ts xs r.roots.items r.first.items) (sym same_roots) h.roots;
+    roots = subst (λ (r : Roots). AreRootChains m ts xs r.roots.items r.first.items) (sym same_roots) h.roots;
     steps = subst (AreSteps xs) (sym same_steps) h.steps;
     judged = λ all. judged_under_way front (begun source) k k.wrong (same_wrong ∙ none) (record {
       going = goes;
       begun = j.reached;
-      noted = subst (λ (ws : List Bool). AreNoted m ts xs front ws j.reached) (sym marks) (noted_where_none front j j.wrong none (h.judged (before all)));
-      walked = subst (λ (r : Roots). IsWalked xs r.roots.items r.first.items (begun source) j.reached k.reached k.walk) (sym same_roots) (subst (λ (t : TableParts). IsWalked xs j.roots.roots.items j.roots.first.items (begun source) j.reached t k.walk) (sym bits) (walked j.reached));
+      noted = subst (λ (ws : List Bool). AreTreesNoted m ts xs front ws j.reached) (sym marks) (noted_where_none front j j.wrong none (h.judged (before all)));
+      walked = subst (λ (r : Roots). IsTreeWalked xs r.roots.items r.first.items (begun source) j.reached k.reached k.walk) (sym same_roots) (subst (λ (t : TableParts). IsTreeWalked xs j.roots.roots.items j.roots.first.items (begun source) j.reached t k.walk) (sym bits) (walked j.reached));
       number = zero;
     });
   }

@@ -11,7 +11,7 @@ use Rattle.mesh_shape.specs.declared.half_edges.table.HalfEdge.{HalfEdge}
 use Rattle.cert_checker.specs.declared.tree_judge.hearing.TreeJudge.{TreeJudge}
 use Rattle.cert_checker.specs.declared.tree_judge.judge.Reach.{Reach}
 use Rattle.cert_checker.specs.declared.tree_judge.judge.TreeVerdict.TheVariants.{Whole, Wrong}
-use Rattle.cert_checker.specs.TreeJudge.Heard.{AreTreesCounted, AreNoted, IsJudged, HasHeardTrees, IsJudgeable}
+use Rattle.cert_checker.specs.TreeJudge.Heard.{AreTreesCounted, AreTreesNoted, IsTreeJudged, HasHeardTrees, IsJudgeable}
 use Rattle.cert_checker.specs.TreeJudge.Trees.{TellsTrees}
 use Rattle.cert_checker.specs.TreeJudge.Whole.{IsFirstWrongTree, AreWholeOver}
 use Rattle.cert_checker.proofs.TreeJudge.AllTrees.{AreTreesJudged, trees_whole, keeps_away, wrong_told, sources_below}
@@ -28,9 +28,9 @@ module _ (p : PlanParts) (c : CertParts) (ts : List Triangle) (xs : List HalfEdg
 
   pub tells_wrong : (j : TreeJudge) (w : ℕ × ℕ) → HasHeardTrees (map_of p) ts xs trees None j → j.wrong ≡ Some w → TellsTrees (map_of p) c (Wrong w.0 w.1)
   tells_wrong j w heard e = wrong_told p c ts xs trees [] [] (record { n = 0; bytes = [] }) (record { n = 0; bytes = [] }) (are_judged [] [] (record { n = 0; bytes = [] }) (record { n = 0; bytes = [] })) w.0 w.1
-      (first (subst (IsJudged (map_of p) ts xs trees None j) e (heard.judged counted)))
+      (first (subst (IsTreeJudged (map_of p) ts xs trees None j) e (heard.judged counted)))
     where
-      first : IsJudged (map_of p) ts xs trees None j (Some w) → IsFirstWrongTree (map_of p) ts xs trees w.0 w.1
+      first : IsTreeJudged (map_of p) ts xs trees None j (Some w) → IsFirstWrongTree (map_of p) ts xs trees w.0 w.1
       first (ended, inl h) = h
       first (ended, inr h) = absurd (let f : ◌≡◌ {A = Option Tree} None (Some h.tree) = h.is in cc)
 
@@ -41,8 +41,8 @@ module _ (p : PlanParts) (c : CertParts) (ts : List Triangle) (xs : List HalfEdg
     keeps_away p c ts xs trees noted.unmarked j.walked.items noted.clear r.reached noted.unmarked r.walked.items judged over_all over.in_order noted.none noted.unset refl marks noted.size,
   )
     where
-      noted : AreNoted (map_of p) ts xs trees j.walked.items j.reached
-      noted = (subst (IsJudged (map_of p) ts xs trees None j) e (heard.judged counted)).1
+      noted : AreTreesNoted (map_of p) ts xs trees j.walked.items j.reached
+      noted = (subst (IsTreeJudged (map_of p) ts xs trees None j) e (heard.judged counted)).1
 
       judged : AreTreesJudged p c ts xs trees noted.unmarked j.walked.items noted.clear r.reached
       judged = are_judged noted.unmarked j.walked.items noted.clear r.reached

@@ -10,7 +10,7 @@ use Rattle.cert_checker.specs.declared.tree_judge.trees.Frame.{Frame}
 use Rattle.cert_checker.specs.declared.tree_judge.trees.Wait.{Wait}
 use Rattle.cert_checker.specs.declared.tree_judge.trees.Follow.{Follow}
 use Rattle.cert_checker.specs.TreeJudge.Roots.{first_at}
-use Rattle.cert_checker.specs.TreeJudge.Path.{Pending, root_pending, IsAt}
+use Rattle.cert_checker.specs.TreeJudge.Path.{Pending, root_pending, IsWalkAt}
 use Rattle.cert_checker.specs.TreeJudge.Whole.{AreAnswered, Notes, HasAnswered, HasRefused, IsFirstWrongFrom}
 use Rattle.cert_checker.specs.TreeJudge.Walked.{with_node, with_nodes, IsWalkedAt, FollowsAt}
 use Rattle.cert_checker.proofs.TreeJudge.Ways.{at_same}
@@ -24,8 +24,8 @@ module _ (xs : List HalfEdge) (roots : List Root) (firsts : List (Option ℕ)) (
       → IsFollowed xs roots first t.source (t.nodes ++ n ∷ []) (n ∷ []) (length t.nodes) other others f old new
   before_node n new source path other waits others f e i w = record { done = t.nodes; split = refl; count = refl; depth = w.depth; each = λ es c. go es (w.each es c) }
     where
-      go : (es : List ℕ) → (ps : List Pending) × (sectors : List ℕ) × AreAnswered xs t.source (map root_pending es) t.nodes ps sectors × IsAt roots path waits f ps × Notes t.source sectors old new
-          → (ps : List Pending) × (sectors : List ℕ) × AreAnswered xs t.source (map root_pending es) t.nodes ps sectors × IsAt roots other others f ps × Notes t.source sectors old new
+      go : (es : List ℕ) → (ps : List Pending) × (sectors : List ℕ) × AreAnswered xs t.source (map root_pending es) t.nodes ps sectors × IsWalkAt roots path waits f ps × Notes t.source sectors old new
+          → (ps : List Pending) × (sectors : List ℕ) × AreAnswered xs t.source (map root_pending es) t.nodes ps sectors × IsWalkAt roots other others f ps × Notes t.source sectors old new
       go es (ps, sectors, answered, at, notes) = (ps, sectors, answered, at_same roots path other waits others f ps e i at, notes)
 
   -- the next node answers
@@ -38,7 +38,7 @@ module _ (xs : List HalfEdge) (roots : List Root) (firsts : List (Option ℕ)) (
     room = room w.room;
     room_to_wait = to_wait w.room_to_wait;
     depth = λ es c. let h : length (t.nodes ++ n ∷ []) ≡ length t.nodes + 1 = length_push t.nodes n in let d : f_new.depth ≤ length t.nodes + 1 = after.depth es c in omega (arith, h, d);
-    each = λ es c. subst (λ (ns : List Node). (ps : List Pending) × (sectors : List ℕ) × AreAnswered xs t.source (map root_pending es) ns ps sectors × IsAt roots path_new waits_new f_new ps × Notes t.source sectors old more) all (after.each es c);
+    each = λ es c. subst (λ (ns : List Node). (ps : List Pending) × (sectors : List ℕ) × AreAnswered xs t.source (map root_pending es) ns ps sectors × IsWalkAt roots path_new waits_new f_new ps × Notes t.source sectors old more) all (after.each es c);
   }
     where
       after : IsFollowed xs roots first t.source (t.nodes ++ n ∷ []) [] (length t.nodes + 1) path_new waits_new f_new old more

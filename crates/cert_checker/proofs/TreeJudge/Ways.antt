@@ -10,7 +10,7 @@ use Rattle.cert_checker.specs.declared.tree_judge.roots.Root.{Root}
 use Rattle.cert_checker.specs.declared.tree_judge.trees.Frame.{Frame}
 use Rattle.cert_checker.specs.declared.tree_judge.trees.Wait.{Wait}
 use Rattle.cert_checker.specs.declared.tree_judge.trees.Follow.{Follow}
-use Rattle.cert_checker.specs.TreeJudge.Path.{portal_ends, path_ends, PutsAt, IsWaiting, Pending, pending_way, root_pending, IsAt, longest_of}
+use Rattle.cert_checker.specs.TreeJudge.Path.{portal_ends, path_ends, PutsAt, IsWaiting, Pending, pending_way, root_pending, IsWalkAt, longest_of}
 
 -- ---- the first portals alone count
 
@@ -58,7 +58,7 @@ waiting_same path other waits others d count (p ∷ ws) e i l (w, (k, q, is), le
     ends = ap (λ (fs : List Frame). let r : Pending = record { path = path_ends fs; edge = w.way } in r) (sym (take_in path count d l) ∙ ap (take count) (sym e) ∙ take_in other count d l)
 
 -- what is still to be asked depends on the places of the open portals alone
-pub at_same : (roots : List Root) (path other : List Frame) (waits others : List Wait) (f : Follow) (ps : List Pending) → take f.depth other ≡ take f.depth path → take f.depth others ≡ take f.depth waits → IsAt roots path waits f ps → IsAt roots other others f ps
+pub at_same : (roots : List Root) (path other : List Frame) (waits others : List Wait) (f : Follow) (ps : List Pending) → take f.depth other ≡ take f.depth path → take f.depth others ≡ take f.depth waits → IsWalkAt roots path waits f ps → IsWalkAt roots other others f ps
 at_same roots path other waits others f ps e i a = record {
   es = a.es;
   ways = a.ways;

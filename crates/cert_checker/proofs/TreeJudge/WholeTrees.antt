@@ -16,13 +16,13 @@ use Rattle.sight_names.specs.Sequence.{Portal, Left, Right, entry_edge, way_out,
 use Rattle.block_evidence.specs.declared.Evidence.{Evidence}
 use Rattle.block_evidence.specs.declared.sight_tree.Node.{Node}
 use Rattle.block_evidence.specs.declared.sight_tree.Node.TheVariants.{Open, Blocked}
-use Rattle.block_evidence.specs.Stuck.{Blocks}
-use Rattle.block_evidence.specs.SightTree.WholeTree.{HasNode, HasNoNode, Answers as AnswersFor, no_node, blocked, open_node, AnswersRoots}
+use Rattle.block_evidence.specs.Stuck.{BlocksEnds}
+use Rattle.block_evidence.specs.SightTree.WholeTree.{HasNode, HasNoNode, NodesAnswer as AnswersFor, no_node, blocked, open_node, AnswersRoots}
 use Rattle.mesh_shape.specs.declared.half_edges.table.HalfEdge.{HalfEdge}
 use Rattle.mesh_shape.specs.HalfEdges.HalfEdges.{AreOfGoodMesh, way_outside}
 use Rattle.cert_checker.specs.TreeJudge.Roots.{way_out_of, root_edge}
 use Rattle.cert_checker.specs.TreeJudge.Path.{Pending, pending_way, root_pending, list_of}
-use Rattle.cert_checker.specs.TreeJudge.Whole.{ends_through, ways_through, Answers, AreAnswered}
+use Rattle.cert_checker.specs.TreeJudge.Whole.{ends_through, ways_through, AnswersFirst, AreAnswered}
 use Rattle.cert_checker.proofs.TreeJudge.Meshed.{AreAllNamed, Enters, IsInner, IsAsked, asked, not_asked, no_node_unasked, node_asked, left_inner, right_inner, passable}
 use Rattle.math_base.proofs.Options.{some_is_same}
 use Rattle.math_base.proofs.Bools.{first_is_not}
@@ -121,7 +121,7 @@ module _ (p : PlanParts) (ts : List Triangle) (xs : List HalfEdge) (w : AreOfGoo
       nodes = refl;
       parts = parts ∙ ap (λ (ss : List ℕ). ss ++ more) h;
       marked = refl;
-      answers = blocked q through_it.k e (has_node front q i n) (subst (λ (es : List EndPoints). Blocks es e) ends blocks) refl refl;
+      answers = blocked q through_it.k e (has_node front q i n) (subst (λ (es : List EndPoints). BlocksEnds es e) ends blocks) refl refl;
       behind = subst (λ (qs : List Pending). AreAnswered xs a qs ns [] more) (g ∙ sym (rest_same this r rest others first)) behind;
     }
       where
@@ -224,7 +224,7 @@ module _ (p : PlanParts) (ts : List Triangle) (xs : List HalfEdge) (w : AreOfGoo
         inr (passable p ts xs w s.line l (not s.left) e (first_is_not l.solid (names_it (sector_on l s.left) a) (not (names_it (sector_on l (not s.left)) a)) (sym (root_test (map_of p) a s l e) ∙ root))),
       )
 
-  no_answer : (n : Node) (rs : List Pending) (here : List ℕ) → Answers xs a [] n rs here → ⊥
+  no_answer : (n : Node) (rs : List Pending) (here : List ℕ) → AnswersFirst xs a [] n rs here → ⊥
   no_answer Open rs here answer = nothing_left answer.0 answer.1 answer.3
   no_answer (Blocked e) rs here answer = nothing_left answer.0 answer.1 answer.3
 
@@ -292,13 +292,13 @@ module _ (p : PlanParts) (ts : List Triangle) (xs : List HalfEdge) (w : AreOfGoo
   at_none : (front : List Portal) (q : Portal) (rest : List Pending) (here back : List Node) (via others : List ℕ) → HasNoNode (map_of p) ts ls a q → here ≡ [] → via ≡ [] → IsAnswered rest back others → IsAnswered (asks front q ++ rest) (here ++ back) (via ++ others)
   at_none front q rest here back via others none e o answered = moved_to front q None rest (here ++ back) back (via ++ others) others (no_node_unasked p ts xs w a q none) (ap (λ (ns : List Node). ns ++ back) e) (ap (λ (ks : List ℕ). ks ++ others) o) answered
 
-  at_blocked : (front : List Portal) (q : Portal) (k : ℕ) (d : Evidence) (rest : List Pending) (here back : List Node) (via others : List ℕ) → HasNode (map_of p) ts ls a (front ++ q ∷ []) q k → Blocks (end_points (map_of p) (front ++ q ∷ [])) d → here ≡ Blocked d ∷ [] → via ≡ [] → IsAnswered rest back others
+  at_blocked : (front : List Portal) (q : Portal) (k : ℕ) (d : Evidence) (rest : List Pending) (here back : List Node) (via others : List ℕ) → HasNode (map_of p) ts ls a (front ++ q ∷ []) q k → BlocksEnds (end_points (map_of p) (front ++ q ∷ [])) d → here ≡ Blocked d ∷ [] → via ≡ [] → IsAnswered rest back others
       → IsAnswered (asks front q ++ rest) (here ++ back) (via ++ others)
   at_blocked front q k d rest here back via others has blocks e o (sectors, answered, marked) = go (node_asked p ts xs w a q k has.no_wall has.entered has.outside)
     where
       go : (i : ℕ) × (the_way q ≡ Some i) → IsAnswered (asks front q ++ rest) (here ++ back) (via ++ others)
       go (i, way) = moved_to front q (Some i) rest (here ++ back) (Blocked d ∷ back) (via ++ others) others way (ap (λ (ns : List Node). ns ++ back) e) (ap (λ (ks : List ℕ). ks ++ others) o)
-          (sectors, (rest, [], sectors, (asked_at front i, rest, n.x, refl, n.is, subst (λ (es : List EndPoints). Blocks es d) (sym (through front q i n.x n.left_at n.right_at)) blocks, refl, refl), answered, refl), marked)
+          (sectors, (rest, [], sectors, (asked_at front i, rest, n.x, refl, n.is, subst (λ (es : List EndPoints). BlocksEnds es d) (sym (through front q i n.x n.left_at n.right_at)) blocks, refl, refl), answered, refl), marked)
         where
           n : Enters p ts ls xs q i
           n = (asked p ts xs w a q i way).enters
@@ -338,7 +338,7 @@ module _ (p : PlanParts) (ts : List Triangle) (xs : List HalfEdge) (w : AreOfGoo
   complete : {ps : List Portal} {here : List Node} {opened : List ℕ} → AnswersFor (map_of p) ts ls a ps here opened → (front : List Portal) (q : Portal) → ps ≡ front ++ q ∷ [] → (rest : List Pending) (back : List Node) (others : List ℕ) → IsAnswered rest back others → IsAnswered (asks front q ++ rest) (here ++ back) (opened ++ others)
   complete {ps = ps} {here = here} {opened = opened} (no_node r last none e o) front q same rest back others answered = at_none front q rest here back opened others (subst (HasNoNode (map_of p) ts ls a) (last_same ps front r q same last) none) e o answered
   complete {ps = ps} {here = here} {opened = opened} (blocked r k d has blocks e o) front q same rest back others answered =
-      at_blocked front q k d rest here back opened others (subst (λ (us : List Portal). HasNode (map_of p) ts ls a us q k) same (subst (λ (s : Portal). HasNode (map_of p) ts ls a ps s k) (last_same ps front r q same has.last) has)) (subst (λ (us : List Portal). Blocks (end_points (map_of p) us) d) same blocks) e o answered
+      at_blocked front q k d rest here back opened others (subst (λ (us : List Portal). HasNode (map_of p) ts ls a us q k) same (subst (λ (s : Portal). HasNode (map_of p) ts ls a ps s k) (last_same ps front r q same has.last) has)) (subst (λ (us : List Portal). BlocksEnds (end_points (map_of p) us) d) same blocks) e o answered
   complete {ps = ps} {here = here} {opened = opened} (open_node r k t left right via_left via_right has third one other e o) front q same rest back others answered =
       let is : r ≡ q = last_same ps front r q same has.last in
       let behind_right : IsAnswered (asks (front ++ q ∷ []) (way_out r Right t) ++ rest) (right ++ back) (via_right ++ others) = complete other (front ++ q ∷ []) (way_out r Right t) (ap (λ (us : List Portal). us ++ way_out r Right t ∷ []) same) rest back others answered in

@@ -28,8 +28,8 @@ AreGroupsJoined c f k = (f ≡ k) ⊎ HasRay c f k ⊎ HasRay c k f
 
 -- ---- sectors, by the groups that contain them
 
-abbrev pub HasPair : List Pair → ℕ → ℕ → Type 0
-HasPair pairs a b = Contains pairs (record { a = a; b = b })
+abbrev pub HasListedPair : List Pair → ℕ → ℕ → Type 0
+HasListedPair pairs a b = Contains pairs (record { a = a; b = b })
 
 -- why a set bit is right: all groups of the two sectors are apart
 abbrev pub IsBlindBy : Map → (ℕ → ℕ → Type 0) → CertParts → ℕ → ℕ → Type 0
@@ -46,9 +46,9 @@ pub record IsAcceptedOn (g : Map) (In : ℕ → ℕ → Type 0) (n : ℕ) (table
   -- each tree is whole
   pub trees : (t : Tree) → Contains c.trees t → (opened : List ℕ) × IsWholeTree g (triangles_of c) (labels_of c) t opened
   -- each pair of sectors is proved: a listed one is clear, a set one blind, a clear one that isn't listed seen
-  pub listed : (a b : ℕ) → a ≤ b → b < n → HasPair pairs a b → ¬ EitherSet n table a b
+  pub listed : (a b : ℕ) → a ≤ b → b < n → HasListedPair pairs a b → ¬ EitherSet n table a b
   pub set : (a b : ℕ) → a ≤ b → b < n → EitherSet n table a b → IsBlindBy g In c a b
-  pub clear : (a b : ℕ) → a ≤ b → b < n → EitherClear n table a b → ¬ HasPair pairs a b → IsSeenBy In c a b
+  pub clear : (a b : ℕ) → a ≤ b → b < n → EitherClear n table a b → ¬ HasListedPair pairs a b → IsSeenBy In c a b
 
 -- ---- version 1
 
@@ -57,14 +57,14 @@ abbrev pub IsAlone : Map → ℕ → ℕ → Type 0
 IsAlone m a f = (a ≡ f) × IsNamed m a
 
 -- accepted: its triangles are a good mesh, and the rule is kept over the map itself
-pub record IsAccepted (m : Map) (table : List ℕ) (c : CertParts) : Type 0 where
+pub record IsAcceptedOne (m : Map) (table : List ℕ) (c : CertParts) : Type 0 where
   pub mesh : IsGoodMesh m (triangles_of c) (labels_of c)
   pub on : IsAcceptedOn m (IsAlone m) m.sectors table c.listed c
 
 -- ---- version 2
 
 abbrev pub IsPairOfList : CertTwo → ℕ → ℕ → Type 0
-IsPairOfList c a b = HasPair c.listed a b
+IsPairOfList c a b = HasListedPair c.listed a b
 
 abbrev pub IsGroupedBlind : Map → CertTwo → ℕ → ℕ → Type 0
 IsGroupedBlind g c a b = IsBlindBy g (IsInGroup c.groups) c.cert a b
@@ -84,5 +84,5 @@ IsAcceptedTwo m table c = (g : Map) × NamesTheLabels m (triangles_of c.cert) c.
 
 -- accepted, in version 1 or 2
 abbrev pub IsAcceptedAny : Map → List ℕ → AnyCert → Type 0
-IsAcceptedAny m table (One c) = IsAccepted m table c
+IsAcceptedAny m table (One c) = IsAcceptedOne m table c
 IsAcceptedAny m table (Two c sizes) = IsAcceptedTwo m table c

@@ -29,8 +29,8 @@ pub record PutsAt (old : List Frame) (depth : ℕ) (ends : EndPoints) (new : Lis
   pub put : path_ends (take (depth + 1) new) ≡ path_ends (take depth old) ++ ends ∷ []
 
 -- this is the end with the code, if it is any
-abbrev pub IsEndOf : List EndPoints → ℕ → Option EndAt → Type 0
-IsEndOf es code found = IfSome found (λ e. end_of es code ≡ Some e)
+abbrev pub IsEndWithCode : List EndPoints → ℕ → Option EndAt → Type 0
+IsEndWithCode es code found = IfSome found (λ e. end_of es code ≡ Some e)
 
 -- these are the codes of four ends, and the ends are stuck
 abbrev pub AreStuckEnds : List EndPoints → ℕ → ℕ → ℕ → ℕ → Type 0
@@ -50,19 +50,19 @@ pending_way path None = []
 pending_way path (Some i) = record { path = path; edge = i } ∷ []
 
 -- this way waits behind a portal, to whose far side so many portals lead, itself the last of them
-abbrev pub StandsAt : List Wait → ℕ → Wait → Type 0
-StandsAt waits count w = (k : ℕ) × (count ≡ k + 1) × (slice_get waits k ≡ Some w)
+abbrev pub WaitsBehind : List Wait → ℕ → Wait → Type 0
+WaitsBehind waits count w = (k : ℕ) × (count ≡ k + 1) × (slice_get waits k ≡ Some w)
 
 -- The right ways that are still to come, the last one first: that behind the last portal that has one, to whose far side so many lead, and those
 -- behind the portals that are named one after another.
 abbrev pub IsWaiting : List Frame → List Wait → ℕ → List Pending → Type 0
 IsWaiting path waits count [] = count ≡ 0
-IsWaiting path waits count (p ∷ ps) = (w : Wait) × StandsAt waits count w × (count ≤ length path) × (p ≡ record { path = path_ends (take count path); edge = w.way }) × (w.before < count) × IsWaiting path waits w.before ps
+IsWaiting path waits count (p ∷ ps) = (w : Wait) × WaitsBehind waits count w × (count ≤ length path) × (p ≡ record { path = path_ends (take count path); edge = w.way }) × (w.before < count) × IsWaiting path waits w.before ps
 
 -- the half-edges of the roots from this place on
-abbrev pub IsChain : List Root → Option ℕ → List ℕ → Type 0
-IsChain roots o [] = o ≡ None
-IsChain roots o (e ∷ es) = (k : ℕ) × (r : Root) × (o ≡ Some k) × (slice_get roots k ≡ Some r) × (r.edge ≡ e) × IsChain roots r.next es
+abbrev pub IsRootChain : List Root → Option ℕ → List ℕ → Type 0
+IsRootChain roots o [] = o ≡ None
+IsRootChain roots o (e ∷ es) = (k : ℕ) × (r : Root) × (o ≡ Some k) × (slice_get roots k ≡ Some r) × (r.edge ≡ e) × IsRootChain roots r.next es
 
 -- the root at this place is asked, if there is one, and the place of the next one is behind it
 pub record AsksRoot (roots : List Root) (root asked next : Option ℕ) : Type 0 where
@@ -74,10 +74,10 @@ abbrev pub root_pending : ℕ → Pending
 root_pending e = record { path = []; edge = e }
 
 -- all that is still to be asked by the walk: the present half-edge, the right ways that wait, the roots behind its own
-pub record IsAt (roots : List Root) (path : List Frame) (waits : List Wait) (f : Follow) (ps : List Pending) : Type 0 where
+pub record IsWalkAt (roots : List Root) (path : List Frame) (waits : List Wait) (f : Follow) (ps : List Pending) : Type 0 where
   pub es : List ℕ
   pub ways : List Pending
-  pub chain : IsChain roots f.root es
+  pub chain : IsRootChain roots f.root es
   pub waiting : IsWaiting path waits f.waiting ways
   pub nested : f.waiting ≤ f.depth
   pub all : ps ≡ pending_way (path_ends (take f.depth path)) f.asked ++ (ways ++ map root_pending es)
@@ -89,7 +89,7 @@ with_asked f asked = record f { asked = asked }
 
 -- the first of the ways that wait and of the roots is asked, and the others remain; None only where nothing was left
 pub record TakesNext (roots : List Root) (path : List Frame) (waits : List Wait) (old new : Follow) (asked : Option ℕ) : Type 0 where
-  pub next : (es : List ℕ) (ways : List Pending) → IsChain roots old.root es → IsWaiting path waits old.waiting ways → IsAt roots path waits (with_asked new asked) (ways ++ map root_pending es)
+  pub next : (es : List ℕ) (ways : List Pending) → IsRootChain roots old.root es → IsWaiting path waits old.waiting ways → IsWalkAt roots path waits (with_asked new asked) (ways ++ map root_pending es)
   pub depth : new.depth ≤ old.waiting
 
 -- the two ways behind a half-edge to whose portal's far side these ends lead, as far as they lead out of the source
@@ -98,8 +98,8 @@ ways_behind xs source ends x = pending_way ends (way_outside xs source x.left_wa
 
 -- whoever goes through the half-edge has its two ways to ask before all that is still to be asked; the first is asked
 pub record EntersThrough (xs : List HalfEdge) (roots : List Root) (source : ℕ) (path : List Frame) (waits : List Wait) (old : Follow) (x : HalfEdge) (waits_new : List Wait) (new : Follow) (asked : Option ℕ) : Type 0 where
-  pub next : (es : List ℕ) (ways : List Pending) → IsChain roots old.root es → IsWaiting path waits old.waiting ways → old.waiting ≤ old.depth
-      → IsAt roots path waits_new (with_asked new asked) (ways_behind xs source (path_ends (take (old.depth + 1) path)) x ++ (ways ++ map root_pending es))
+  pub next : (es : List ℕ) (ways : List Pending) → IsRootChain roots old.root es → IsWaiting path waits old.waiting ways → old.waiting ≤ old.depth
+      → IsWalkAt roots path waits_new (with_asked new asked) (ways_behind xs source (path_ends (take (old.depth + 1) path)) x ++ (ways ++ map root_pending es))
   pub depth : old.waiting ≤ old.depth → new.depth ≤ old.depth + 1
 
 -- how many nodes the longest of the trees has

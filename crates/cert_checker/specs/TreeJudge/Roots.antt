@@ -10,7 +10,7 @@ use Rattle.cert_checker.specs.declared.tree_judge.roots.Root.{Root}
 use Rattle.mesh_shape.specs.declared.half_edges.table.HalfEdge.{HalfEdge}
 use Rattle.mesh_shape.specs.HalfEdges.Numbers.{edge}
 use Rattle.mesh_shape.specs.HalfEdges.HalfEdges.{entering, way_outside}
-use Rattle.cert_checker.specs.TreeJudge.Path.{IsChain, list_of}
+use Rattle.cert_checker.specs.TreeJudge.Path.{IsRootChain, list_of}
 
 -- the place of the source's first root
 abbrev pub first_at : List (Option ℕ) → ℕ → Option ℕ
@@ -25,7 +25,7 @@ pub record PutsFirst (source number : ℕ) (roots : List Root) (firsts : List (O
 -- each source has these half-edges before the roots that were there
 pub record PutsBefore (edges : ℕ → List ℕ) (roots : List Root) (firsts : List (Option ℕ)) (roots_new : List Root) (firsts_new : List (Option ℕ)) : Type 0 where
   pub len : length firsts_new ≡ length firsts
-  pub chains : (source : ℕ) → source < length firsts → (es : List ℕ) → IsChain roots (first_at firsts source) es → IsChain roots_new (first_at firsts_new source) (edges source ++ es)
+  pub chains : (source : ℕ) → source < length firsts → (es : List ℕ) → IsRootChain roots (first_at firsts source) es → IsRootChain roots_new (first_at firsts_new source) (edges source ++ es)
 
 module _ (ts : List Triangle) (xs : List HalfEdge) where
   -- the half-edge through the edge, as far as it leads out of the source
@@ -38,9 +38,9 @@ module _ (ts : List Triangle) (xs : List HalfEdge) where
 
   -- the half-edges of a line: none where it is solid; else that of the right side, and that of the left side, as far as
   -- they name the source and the other side doesn't
-  abbrev pub line_edges : Option Line → ℕ → List ℕ
-  line_edges None source = []
-  line_edges (Some l) source = if l.solid then [] else (if names_it l.right source && not (names_it l.left source) then list_of (way_out_of source (edge l.a l.b)) else [])
+  abbrev pub half_edges_of_line : Option Line → ℕ → List ℕ
+  half_edges_of_line None source = []
+  half_edges_of_line (Some l) source = if l.solid then [] else (if names_it l.right source && not (names_it l.left source) then list_of (way_out_of source (edge l.a l.b)) else [])
       ++ (if names_it l.left source && not (names_it l.right source) then list_of (way_out_of source (edge l.b l.a)) else [])
 
   -- the half-edge through a root's portal
@@ -52,5 +52,5 @@ module _ (ts : List Triangle) (xs : List HalfEdge) where
   root_edges m source = filter_map (root_edge m source) (roots_of m source)
 
 -- for each source its roots in order: the half-edge through the portal of each, as far as it leads out of the source
-pub record AreRoots (m : Map) (ts : List Triangle) (xs : List HalfEdge) (roots : List Root) (firsts : List (Option ℕ)) : Type 0 where
-  pub chains : (source : ℕ) → source < m.sectors → IsChain roots (first_at firsts source) (root_edges ts xs m source)
+pub record AreRootChains (m : Map) (ts : List Triangle) (xs : List HalfEdge) (roots : List Root) (firsts : List (Option ℕ)) : Type 0 where
+  pub chains : (source : ℕ) → source < m.sectors → IsRootChain roots (first_at firsts source) (root_edges ts xs m source)

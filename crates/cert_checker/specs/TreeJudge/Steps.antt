@@ -21,12 +21,12 @@ abbrev pub IsBelowNone : Option ℕ → Type 0
 IsBelowNone sector = IfSome sector (λ s. s < 65536)
 
 -- the way, unless the sector behind it is the source
-abbrev pub way_by : Option ℕ → ℕ → ℕ → Option ℕ
-way_by way sector source = if sector == source then None else way
+abbrev pub way_unless_source : Option ℕ → ℕ → ℕ → Option ℕ
+way_unless_source way sector source = if sector == source then None else way
 
 -- by what is told of it, the way leads out of each source just where it does
-abbrev pub LeadsTo : List HalfEdge → Option ℕ → Option ℕ → ℕ → Type 0
-LeadsTo xs way told sector = (source : ℕ) → source < 65536 → way_by told sector source ≡ way_outside xs source way
+abbrev pub WayLeadsTo : List HalfEdge → Option ℕ → Option ℕ → ℕ → Type 0
+WayLeadsTo xs way told sector = (source : ℕ) → source < 65536 → way_unless_source told sector source ≡ way_outside xs source way
 
 -- the ends of the step's portal
 abbrev pub step_ends : Step → EndPoints
@@ -37,12 +37,12 @@ abbrev pub NotesCode : ℕ → ℕ → TableParts → TableParts → Type 0
 NotesCode source code old new = (sector : Option ℕ) → code ≡ sector_code sector → IsBelowNone sector → Notes source (list_of sector) old new
 
 -- the bits of the source and of the sectors that are seen are set: to note one of them once more changes nothing
-abbrev pub AreSeen : ℕ → List Bool → TableParts → Type 0
-AreSeen source seen t = (sector : ℕ) → slice_get seen sector ≡ Some true → Notes source (sector ∷ []) t t
+abbrev pub AreSeenNoted : ℕ → List Bool → TableParts → Type 0
+AreSeenNoted source seen t = (sector : ℕ) → slice_get seen sector ≡ Some true → Notes source (sector ∷ []) t t
 
 -- what is asked, by a plain number that no half-edge has where it is nothing
-abbrev pub told : ℕ → Option ℕ
-told code = if nat_lt code 4294967296 then Some code else None
+abbrev pub code_told : ℕ → Option ℕ
+code_told code = if nat_lt code 4294967296 then Some code else None
 
 -- The right way behind the half-edge waits before those that did, where it leads out of the source; whatever path leads there. No other
 -- buffer is looked at.
@@ -54,17 +54,17 @@ pub record LetsWait (xs : List HalfEdge) (source : ℕ) (x : HalfEdge) (waits : 
   pub root : f_new.root ≡ f.root
 
 -- the half-edge as a step
-pub record IsStep (xs : List HalfEdge) (x : HalfEdge) (s : Step) : Type 0 where
+pub record IsStepOf (xs : List HalfEdge) (x : HalfEdge) (s : Step) : Type 0 where
   pub left_at : s.left_at ≡ x.left_at
   pub right_at : s.right_at ≡ x.right_at
   pub sector : s.sector ≡ sector_code x.sector
   pub below : IsBelowNone x.sector
-  pub left : LeadsTo xs x.left_way s.left_way s.left_sector
-  pub right : LeadsTo xs x.right_way s.right_way s.right_sector
+  pub left : WayLeadsTo xs x.left_way s.left_way s.left_sector
+  pub right : WayLeadsTo xs x.right_way s.right_way s.right_sector
 
 -- there is a step where there is a half-edge, and it is that one
 abbrev pub IsStepAt : List HalfEdge → Option HalfEdge → Option Step → Type 0
-IsStepAt xs (Some x) (Some s) = IsStep xs x s
+IsStepAt xs (Some x) (Some s) = IsStepOf xs x s
 IsStepAt xs None None = ⊤
 IsStepAt xs (Some x) None = ⊥
 IsStepAt xs None (Some s) = ⊥

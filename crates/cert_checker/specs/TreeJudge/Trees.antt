@@ -11,10 +11,10 @@ use Rattle.mesh_shape.specs.declared.half_edges.table.HalfEdge.{HalfEdge}
 use Rattle.mesh_shape.specs.HalfEdges.HalfEdges.{AreHalfEdges}
 use Rattle.cert_checker.specs.declared.tree_judge.judge.TreeVerdict.{TreeVerdict}
 use Rattle.cert_checker.specs.declared.tree_judge.judge.TreeVerdict.TheVariants.{Whole, Wrong}
-use Rattle.cert_checker.specs.TreeJudge.Marks.{IsMarked}
+use Rattle.cert_checker.specs.TreeJudge.Marks.{IsFlagSet}
 use Rattle.cert_checker.specs.TreeJudge.Path.{root_pending}
 use Rattle.cert_checker.specs.TreeJudge.Roots.{root_edges}
-use Rattle.cert_checker.specs.TreeJudge.Whole.{IsFirstWrong}
+use Rattle.cert_checker.specs.TreeJudge.Whole.{IsFirstWrongNode}
 
 -- each tree of the certificate is whole
 abbrev pub AreTreesWhole : Map → CertParts → Type 0
@@ -33,11 +33,11 @@ pub record IsFirstTreeNotWhole (m : Map) (c : CertParts) (source k : ℕ) : Type
   pub of_map : map_of plan ≡ m
   pub edges : List HalfEdge
   pub are_edges : AreHalfEdges plan (triangles_of c) (labels_of c) edges
-  pub node : IsFirstWrong edges tree.source (map root_pending (root_edges (triangles_of c) edges m tree.source)) tree.nodes k
+  pub node : IsFirstWrongNode edges tree.source (map root_pending (root_edges (triangles_of c) edges m tree.source)) tree.nodes k
 
 -- a sector is marked, and its bit of another one isn't set, exactly where a tree of the one keeps from the other
 abbrev pub TellsReach : Map → CertParts → List Bool → TableParts → Type 0
-TellsReach m c walked reached = (a b : ℕ) → a < m.sectors → b < m.sectors → (IsMarked walked a × ¬ Rejects reached a b) ↔ HasTreeWithout m c a b
+TellsReach m c walked reached = (a b : ℕ) → a < m.sectors → b < m.sectors → (IsFlagSet walked a × ¬ Rejects reached a b) ↔ HasTreeWithout m c a b
 
 -- all trees are whole, and it is told what they keep from; or the first one that isn't is told, with its first wrong node
 abbrev pub TellsTrees : Map → CertParts → TreeVerdict → Type 0

@@ -10,7 +10,7 @@ use Rattle.cert_checker.specs.declared.tree_judge.trees.Wait.{Wait}
 use Rattle.cert_checker.specs.declared.tree_judge.trees.Follow.{Follow}
 use Rattle.cert_checker.specs.declared.tree_judge.walk.TreeWalk.{TreeWalk}
 use Rattle.cert_checker.specs.TreeJudge.Roots.{first_at}
-use Rattle.cert_checker.specs.TreeJudge.Path.{Pending, IsChain, root_pending, IsAt}
+use Rattle.cert_checker.specs.TreeJudge.Path.{Pending, IsRootChain, root_pending, IsWalkAt}
 use Rattle.cert_checker.specs.TreeJudge.Whole.{AreAnswered, Notes, IsFirstWrongFrom}
 
 -- a tree of which no node has come
@@ -30,11 +30,11 @@ pub record IsWalkedAt (xs : List HalfEdge) (roots : List Root) (firsts : List (O
   pub source_is : source ≡ t.source
   pub room : f.depth ≤ length path
   pub room_to_wait : f.depth ≤ length waits
-  pub depth : (es : List ℕ) → IsChain roots (first_at firsts t.source) es → f.depth ≤ length t.nodes
-  pub each : (es : List ℕ) → IsChain roots (first_at firsts t.source) es → (ps : List Pending) × (sectors : List ℕ) × AreAnswered xs t.source (map root_pending es) t.nodes ps sectors × IsAt roots path waits f ps × Notes t.source sectors old new
+  pub depth : (es : List ℕ) → IsRootChain roots (first_at firsts t.source) es → f.depth ≤ length t.nodes
+  pub each : (es : List ℕ) → IsRootChain roots (first_at firsts t.source) es → (ps : List Pending) × (sectors : List ℕ) × AreAnswered xs t.source (map root_pending es) t.nodes ps sectors × IsWalkAt roots path waits f ps × Notes t.source sectors old new
 
-abbrev pub IsWalked : List HalfEdge → List Root → List (Option ℕ) → Tree → TableParts → TableParts → TreeWalk → Type 0
-IsWalked xs roots firsts t old new w = IsWalkedAt xs roots firsts t old new w.source w.path.items w.waits.items w.follow
+abbrev pub IsTreeWalked : List HalfEdge → List Root → List (Option ℕ) → Tree → TableParts → TableParts → TreeWalk → Type 0
+IsTreeWalked xs roots firsts t old new w = IsWalkedAt xs roots firsts t old new w.source w.path.items w.waits.items w.follow
 
 -- nothing is asked of it
 abbrev pub AsksNothing : TreeWalk → Type 0
@@ -49,5 +49,5 @@ pub record FollowsAt (xs : List HalfEdge) (roots : List Root) (firsts : List (Op
   pub some : wrong ≡ true → 0 < length ns
   pub refused : wrong ≡ true → (t : Tree) (begun : TableParts) → IsWalkedAt xs roots firsts t begun old source path waits f → IsFirstWrongFrom xs roots (first_at firsts t.source) (with_nodes ns t) (length t.nodes + length ns - 1)
 
-abbrev pub Follows : List HalfEdge → List Root → List (Option ℕ) → TreeWalk → TableParts → TreeWalk → TableParts → Bool → List Node → Type 0
-Follows xs roots firsts w old w_new new wrong ns = (w_new.source ≡ w.source) × FollowsAt xs roots firsts w.source w.path.items w.waits.items w.follow old w_new.path.items w_new.waits.items w_new.follow new wrong ns
+abbrev pub FollowsNodes : List HalfEdge → List Root → List (Option ℕ) → TreeWalk → TableParts → TreeWalk → TableParts → Bool → List Node → Type 0
+FollowsNodes xs roots firsts w old w_new new wrong ns = (w_new.source ≡ w.source) × FollowsAt xs roots firsts w.source w.path.items w.waits.items w.follow old w_new.path.items w_new.waits.items w_new.follow new wrong ns

@@ -10,7 +10,7 @@ ghost use Rattle.cert_checker.specs.TreeJudge.Marks.{HasNoMark};
 ghost use Rattle.mesh_shape.specs.HalfEdges.HalfEdges.{AreHalfEdges};
 ghost use Rattle.cert_checker.specs.TreeJudge.Path.{longest_of};
 ghost use Rattle.cert_checker.specs.TreeJudge.Part.{AreRootsOf, TellsPart};
-ghost use Rattle.cert_checker.specs.TreeJudge.Roots.{AreRoots};
+ghost use Rattle.cert_checker.specs.TreeJudge.Roots.{AreRootChains};
 ghost use Rattle.cert_checker.specs.TreeJudge.Whole.{AreWholeOver, IsFirstWrongTree, HasNoBit, HaveSourcesBelow};
 ghost use Rattle.cert_checker.specs.TreeJudge.Trees.{TellsTrees};
 
@@ -65,8 +65,8 @@ fn wrong_tree(
     trees: &[Tree],
 ) -> Option<(u16, u64)>
     ensures sectors { reached.new.n ≡ reached.old.n }
-    ensures whole { (m : Map) (ts : List Triangle) → AreRoots m ts terrain.now.edges.now terrain.now.roots.now.roots.items terrain.now.roots.now.first.items → HaveSourcesBelow m.sectors trees.now → IfNone result (AreWholeOver m ts terrain.now.edges.now trees.now walked.old walked.new reached.old reached.new) }
-    ensures wrong { longest_of trees.now ≤ length path.old → longest_of trees.now ≤ length waits.old → (m : Map) (ts : List Triangle) → AreRoots m ts terrain.now.edges.now terrain.now.roots.now.roots.items terrain.now.roots.now.first.items → HaveSourcesBelow m.sectors trees.now → IfSome result (λ w. IsFirstWrongTree m ts terrain.now.edges.now trees.now w.0 w.1) }
+    ensures whole { (m : Map) (ts : List Triangle) → AreRootChains m ts terrain.now.edges.now terrain.now.roots.now.roots.items terrain.now.roots.now.first.items → HaveSourcesBelow m.sectors trees.now → IfNone result (AreWholeOver m ts terrain.now.edges.now trees.now walked.old walked.new reached.old reached.new) }
+    ensures wrong { longest_of trees.now ≤ length path.old → longest_of trees.now ≤ length waits.old → (m : Map) (ts : List Triangle) → AreRootChains m ts terrain.now.edges.now terrain.now.roots.now.roots.items terrain.now.roots.now.first.items → HaveSourcesBelow m.sectors trees.now → IfSome result (λ w. IsFirstWrongTree m ts terrain.now.edges.now trees.now w.0 w.1) }
 {
     for tree in trees {
         if let Some(node) = first_wrong(terrain, path, waits, reached, tree) {

@@ -3,7 +3,7 @@
 ghost use Rattle.std.specs.Prelude.{◌≡◌, option_and_then, slice_get, length, IfOk};
 ghost use Rattle.sight_names.specs.Map.{map_of};
 ghost use Rattle.mesh_shape.specs.HalfEdges.Numbers.{edge};
-ghost use Rattle.cert_checker.specs.TreeJudge.Roots.{first_at, side_edges, line_edges, PutsFirst, PutsBefore, AreRoots};
+ghost use Rattle.cert_checker.specs.TreeJudge.Roots.{first_at, side_edges, half_edges_of_line, PutsFirst, PutsBefore, AreRootChains};
 
 use mesh_shape::Mesh;
 use mesh_shape::half_edges::HalfEdges;
@@ -72,7 +72,7 @@ fn put_line(
     first: &mut [Option<usize>],
     entry: Option<Line>,
 ) -> Result<(), Memory>
-    ensures { IfOk result (λ _. PutsBefore (line_edges mesh.now.triangles edges.now entry) roots.old.items first.old roots.new.items first.new) }
+    ensures { IfOk result (λ _. PutsBefore (half_edges_of_line mesh.now.triangles edges.now entry) roots.old.items first.old roots.new.items first.new) }
 {
     let Some(line) = entry else {
         return Ok(());
@@ -87,7 +87,7 @@ fn put_line(
 impl Roots {
     /// The roots of all sources, from the last side back.
     pub fn of(alloc: Global, plan: &Plan, mesh: &Mesh, edges: &HalfEdges) -> Result<Roots, Memory>
-        ensures { IfOk result (λ r. AreRoots (map_of plan.now) mesh.now.triangles edges.now r.roots.items r.first.items) }
+        ensures { IfOk result (λ r. AreRootChains (map_of plan.now) mesh.now.triangles edges.now r.roots.items r.first.items) }
     {
         let mut first = vec![in alloc; None; plan.sectors as usize]?;
         let mut roots = Vec::new(alloc);

@@ -4,10 +4,10 @@
 
 ghost use Rattle.std.specs.Prelude.{◌≡◌, ◌≤◌, ◌<◌, ◌↔◌, List, IsTrue, length};
 ghost use Rattle.mesh_shape.specs.declared.half_edges.table.HalfEdge.{HalfEdge as EdgeOf};
-ghost use Rattle.block_evidence.specs.Stuck.{Blocks};
+ghost use Rattle.block_evidence.specs.Stuck.{BlocksEnds};
 ghost use Rattle.sight_names.specs.declared.limits.TheConstants.{RIGHT_END};
 ghost use Rattle.cert_checker.specs.TreeJudge.Path.{path_ends, PutsAt, EntersThrough, TakesNext};
-ghost use Rattle.cert_checker.specs.TreeJudge.Steps.{told, step_ends, AreSeen, IsStep, LetsWait, NotesCode};
+ghost use Rattle.cert_checker.specs.TreeJudge.Steps.{code_told, step_ends, AreSeenNoted, IsStepOf, LetsWait, NotesCode};
 
 use crate::tree_judge::marks::mark;
 use crate::tree_judge::roots::Roots;
@@ -24,7 +24,7 @@ pub const NO_PLACE: usize = 4_294_967_296;
 /// What is asked, as a plain number.
 #[inline(always)]
 pub fn place_of(asked: Option<u32>) -> usize
-    ensures { told result ≡ asked }
+    ensures { code_told result ≡ asked }
 {
     match asked {
         Some(number) => number as usize,
@@ -34,7 +34,7 @@ pub fn place_of(asked: Option<u32>) -> usize
 
 /// What is asked, told by its plain number.
 pub fn asked_at(place: usize) -> Option<u32>
-    ensures { result ≡ told place }
+    ensures { result ≡ code_told place }
 {
     if place < NO_PLACE {
         Some(place as u32)
@@ -59,7 +59,7 @@ pub fn put_step(path: &mut [Frame], depth: usize, step: &Step)
 #[inline(always)]
 pub fn is_shown(path: &[Frame], evidence: Evidence) -> bool
     requires { length path.now ≤ RIGHT_END }
-    ensures { IsTrue result ↔ Blocks (path_ends path.now) evidence }
+    ensures { IsTrue result ↔ BlocksEnds (path_ends path.now) evidence }
 {
     let [a, b, c, d] = evidence.ends;
     is_seen_blocked(path, evidence) || are_shown_blocked(path, evidence.count, a, b, c, d)
@@ -69,9 +69,9 @@ pub fn is_shown(path: &[Frame], evidence: Evidence) -> bool
 // out of line: a source enters each sector once for the first time, and most of them many times more
 #[inline(never)]
 fn note_first(reached: &mut Table, seen: &mut [bool], source: u16, sector: u32)
-    requires { AreSeen source seen.old reached.old }
+    requires { AreSeenNoted source seen.old reached.old }
     ensures noted { NotesCode source sector reached.old reached.new }
-    ensures seen { AreSeen source seen.new reached.new }
+    ensures seen { AreSeenNoted source seen.new reached.new }
 {
     if sector >= NO_SECTOR {
         return;
@@ -83,9 +83,9 @@ fn note_first(reached: &mut Table, seen: &mut [bool], source: u16, sector: u32)
 /// The same, where it may be seen already.
 #[inline(always)]
 pub fn note_code(reached: &mut Table, seen: &mut [bool], source: u16, sector: u32)
-    requires { AreSeen source seen.old reached.old }
+    requires { AreSeenNoted source seen.old reached.old }
     ensures noted { NotesCode source sector reached.old reached.new }
-    ensures seen { AreSeen source seen.new reached.new }
+    ensures seen { AreSeenNoted source seen.new reached.new }
 {
     if (sector as usize) < seen.len() && seen[sector as usize] {
         return;
@@ -98,7 +98,7 @@ pub fn note_code(reached: &mut Table, seen: &mut [bool], source: u16, sector: u3
 pub fn next_place(roots: &Roots, path: &[Frame], waits: &[Wait], follow: &mut Follow) -> usize
     ensures within { follow.new.depth ≤ length path.now }
     ensures room { follow.new.depth ≤ length waits.now }
-    ensures next { TakesNext roots.now.roots.items path.now waits.now follow.old follow.new (told result) }
+    ensures next { TakesNext roots.now.roots.items path.now waits.now follow.old follow.new (code_told result) }
 {
     place_of(next_asked(roots, path, waits, follow))
 }
@@ -107,7 +107,7 @@ pub fn next_place(roots: &Roots, path: &[Frame], waits: &[Wait], follow: &mut Fo
 #[inline(always)]
 fn let_wait(source: u16, waits: &mut [Wait], follow: &mut Follow, step: &Step)
     requires { follow.old.depth < length waits.old }
-    ensures waits { (xs : List EdgeOf) (x : EdgeOf) → IsStep xs x step.now → LetsWait xs source x waits.old follow.old waits.new follow.new }
+    ensures waits { (xs : List EdgeOf) (x : EdgeOf) → IsStepOf xs x step.now → LetsWait xs source x waits.old follow.old waits.new follow.new }
     ensures depth { follow.new.depth ≡ follow.old.depth }
 {
     let Some(right) = outside(step.right_way, step.right_sector, source) else {
@@ -136,7 +136,7 @@ pub fn enter_step(
     requires waits { follow.old.depth < length waits.old }
     ensures within { follow.new.depth ≤ length path.now }
     ensures room { follow.new.depth ≤ length waits.new }
-    ensures enters { (xs : List EdgeOf) (x : EdgeOf) → IsStep xs x step.now → EntersThrough xs roots.now.roots.items source path.now waits.old follow.old x waits.new follow.new (told result) }
+    ensures enters { (xs : List EdgeOf) (x : EdgeOf) → IsStepOf xs x step.now → EntersThrough xs roots.now.roots.items source path.now waits.old follow.old x waits.new follow.new (code_told result) }
 {
     let_wait(source, waits, follow, step);
     let Some(left) = outside(step.left_way, step.left_sector, source) else {

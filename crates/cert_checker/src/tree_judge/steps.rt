@@ -2,7 +2,7 @@
 
 ghost use Rattle.std.specs.Prelude.{◌≡◌, IfOk};
 ghost use Rattle.mesh_shape.specs.declared.half_edges.table.HalfEdge.{HalfEdge as EdgeOf};
-ghost use Rattle.cert_checker.specs.TreeJudge.Steps.{sector_code, way_by, IsBelowNone, LeadsTo, IsStep, AreSteps};
+ghost use Rattle.cert_checker.specs.TreeJudge.Steps.{sector_code, way_unless_source, IsBelowNone, WayLeadsTo, IsStepOf, AreSteps};
 
 use crate::tree_judge::stepping::NO_PLACE;
 use mesh_shape::half_edges::{HalfEdge, HalfEdges};
@@ -37,7 +37,7 @@ fn code_of(sector: Option<u16>) -> u32
 
 /// The half-edge that the way leads to, where it is there, and the sector of its triangle.
 fn way_of(edges: &HalfEdges, way: Option<u32>) -> (Option<u32>, u32)
-    ensures { LeadsTo edges.now way result.0 result.1 }
+    ensures { WayLeadsTo edges.now way result.0 result.1 }
 {
     let Some(number) = way else {
         return (None, NO_SECTOR);
@@ -50,7 +50,7 @@ fn way_of(edges: &HalfEdges, way: Option<u32>) -> (Option<u32>, u32)
 
 /// The half-edge as a step.
 fn step_of(edges: &HalfEdges, edge: &HalfEdge) -> Step
-    ensures { IsStep edges.now edge.now result }
+    ensures { IsStepOf edges.now edge.now result }
 {
     let (left_way, left_sector) = way_of(edges, edge.left_way);
     let (right_way, right_sector) = way_of(edges, edge.right_way);
@@ -82,7 +82,7 @@ pub fn steps_of(alloc: Global, edges: &HalfEdges) -> Result<Vec<Step>, Memory>
 /// The way, unless it leads into a triangle of the source.
 #[inline(always)]
 pub fn outside(way: Option<u32>, sector: u32, source: u16) -> Option<u32>
-    ensures { result ≡ way_by way sector source }
+    ensures { result ≡ way_unless_source way sector source }
 {
     if sector == source as u32 { None } else { way }
 }

@@ -2,9 +2,9 @@
 
 ghost use Rattle.std.specs.Prelude.{◌≡◌, ◌+◌, ◌≤◌, ◌<◌, ◌↔◌, [], ◌∷◌, List, false, IsTrue, IfNone, IfSome, IfOk, length, take};
 ghost use Rattle.sight_names.specs.Splitting.{end_of as end_at};
-ghost use Rattle.block_evidence.specs.Stuck.{Blocks};
+ghost use Rattle.block_evidence.specs.Stuck.{BlocksEnds};
 ghost use Rattle.block_evidence.specs.declared.Evidence.{Evidence as EvidenceOf};
-ghost use Rattle.cert_checker.specs.TreeJudge.Path.{list_of, path_ends, edge_ends, longest_of, IsEndOf, AreStuckEnds, AsksRoot, Pending, IsWaiting, StandsAt, PutsAt, EntersThrough, TakesNext};
+ghost use Rattle.cert_checker.specs.TreeJudge.Path.{list_of, path_ends, edge_ends, longest_of, IsEndWithCode, AreStuckEnds, AsksRoot, Pending, IsWaiting, WaitsBehind, PutsAt, EntersThrough, TakesNext};
 ghost use Rattle.block_evidence.specs.declared.sight_tree.Node.TheVariants.{Open, Blocked};
 ghost use Rattle.reject_bits.specs.Parts.{TableParts};
 ghost use Rattle.cert_checker.specs.TreeJudge.Roots.{first_at};
@@ -200,7 +200,7 @@ fn are_one_and_three(path: &[Frame], a: u16, b: u16, c: u16, d: u16) -> bool
 #[inline(always)]
 pub fn is_seen_blocked(path: &[Frame], evidence: Evidence) -> bool
     requires { length path.now ≤ RIGHT_END }
-    ensures { IsTrue result → Blocks (path_ends path.now) evidence }
+    ensures { IsTrue result → BlocksEnds (path_ends path.now) evidence }
 {
     let [a, b, c, d] = evidence.ends;
     if evidence.count != 4 || a >= b || b >= c || c >= d {
@@ -227,7 +227,7 @@ pub fn is_seen_blocked(path: &[Frame], evidence: Evidence) -> bool
 
 /// Whether the ends are ends of these portals, and stuck.
 fn is_shown_blocked(path: &[Frame], evidence: Evidence) -> bool
-    ensures { IsTrue result ↔ Blocks (path_ends path.now) evidence }
+    ensures { IsTrue result ↔ BlocksEnds (path_ends path.now) evidence }
 {
     let mut ends = [EndAt {
         code: 0,
@@ -247,7 +247,7 @@ fn is_shown_blocked(path: &[Frame], evidence: Evidence) -> bool
 // out of line, and by its parts: whole evidence would be put into memory for it at each blocked node
 #[inline(never)]
 pub fn are_shown_blocked(path: &[Frame], count: u8, a: u16, b: u16, c: u16, d: u16) -> bool
-    ensures { (e : EvidenceOf) → e.count ≡ count → e.ends ≡ a ∷ b ∷ c ∷ d ∷ [] → IsTrue result ↔ Blocks (path_ends path.now) e }
+    ensures { (e : EvidenceOf) → e.count ≡ count → e.ends ≡ a ∷ b ∷ c ∷ d ∷ [] → IsTrue result ↔ BlocksEnds (path_ends path.now) e }
 {
     let ends = [a, b, c, d];
     is_shown_blocked(path, Evidence { count, ends })
@@ -256,7 +256,7 @@ pub fn are_shown_blocked(path: &[Frame], count: u8, a: u16, b: u16, c: u16, d: u
 /// The same of evidence; most often it is seen at once.
 #[inline(always)]
 pub fn is_blocked(path: &[Frame], evidence: Evidence) -> bool
-    ensures { IsTrue result ↔ Blocks (path_ends path.now) evidence }
+    ensures { IsTrue result ↔ BlocksEnds (path_ends path.now) evidence }
 {
     let [a, b, c, d] = evidence.ends;
     (path.len() <= RIGHT_END as usize && is_seen_blocked(path, evidence))
@@ -308,7 +308,7 @@ fn next_root(roots: &Roots, root: Option<usize>) -> (Option<u32>, Option<usize>)
 #[inline(always)]
 #[tactic(auto, using(crate::proofs::TreeJudge::Ways::none_waits, crate::proofs::TreeJudge::Ways::none_stands, crate::proofs::TreeJudge::Ways::none_leads))]
 fn last_waiting(path: &[Frame], waits: &[Wait], waiting: usize) -> Option<Wait>
-    ensures some { IfSome result (λ w. StandsAt waits.now waiting w) }
+    ensures some { IfSome result (λ w. WaitsBehind waits.now waiting w) }
     ensures within { IfSome result (λ _. waiting ≤ length path.now) }
     ensures none { IfNone result ((ws : List Pending) → IsWaiting path.now waits.now waiting ws → ws ≡ []) }
 {

@@ -7,11 +7,11 @@ ghost use Rattle.mesh_shape.specs.declared.half_edges.table.HalfEdge.{HalfEdge a
 ghost use Rattle.cert_checker.specs.declared.tree_judge.roots.Root.{Root as RootOf};
 ghost use Rattle.cert_checker.specs.TreeJudge.Roots.{first_at};
 ghost use Rattle.sight_names.specs.declared.limits.TheConstants.{RIGHT_END};
-ghost use Rattle.cert_checker.specs.TreeJudge.Steps.{AreSeen, AreSteps};
+ghost use Rattle.cert_checker.specs.TreeJudge.Steps.{AreSeenNoted, AreSteps};
 ghost use Rattle.cert_checker.specs.declared.tree_judge.stepping.TheConstants.{NO_PLACE};
 ghost use Rattle.cert_checker.specs.TreeJudge.Whole.{IsWholeFrom, IsFirstWrongFrom};
 ghost use Rattle.certificates.specs.CertParts.Nodes.{TakesNodes};
-ghost use Rattle.cert_checker.specs.TreeJudge.Walked.{begun, with_node, AsksNothing, FollowsAt, Follows, IsWalked};
+ghost use Rattle.cert_checker.specs.TreeJudge.Walked.{begun, with_node, AsksNothing, FollowsAt, FollowsNodes, IsTreeWalked};
 
 use crate::tree_judge::roots::Roots;
 use crate::tree_judge::stepping::{
@@ -62,7 +62,7 @@ fn follow_nodes<'a>(
     requires path { length path.old ≤ RIGHT_END }
     requires waits { length waits.old ≡ length path.old }
     requires steps { length steps.now ≤ NO_PLACE }
-    requires seen { AreSeen source seen.old reached.old }
+    requires seen { AreSeenNoted source seen.old reached.old }
     ensures { TakesNodes bytes.now count result.rest.now result.left (λ nodes. (result.wrong ≡ true → 0 < length nodes) × ((xs : List EdgeOf) → AreSteps xs steps.now → FollowsAt xs roots.now.roots.items roots.now.first.items source path.old waits.old follow.old reached.old path.new waits.new follow.new reached.new result.wrong nodes)) }
 {
     let mut at = *follow;
@@ -135,7 +135,7 @@ impl TreeWalk {
 
     /// Goes back before the first root, now of this source.
     pub fn begin(&mut self, terrain: &Terrain<'_>, source: u16)
-        ensures { (t : TableParts) → IsWalked terrain.now.edges.now terrain.now.roots.now.roots.items terrain.now.roots.now.first.items (begun source) t t self.new }
+        ensures { (t : TableParts) → IsTreeWalked terrain.now.edges.now terrain.now.roots.now.roots.items terrain.now.roots.now.first.items (begun source) t t self.new }
     {
         self.source = source;
         self.follow = start(terrain, source, self.path.as_slice(), self.waits.as_slice());
@@ -149,8 +149,8 @@ impl TreeWalk {
         reached: &mut Table,
         node: Node,
     ) -> Result<bool, Memory>
-        ensures answered { (t : WalkTree) (old : TableParts) → IsWalked terrain.now.edges.now terrain.now.roots.now.roots.items terrain.now.roots.now.first.items t old reached.old self.old → IfOk result (λ yes. yes ≡ true → IsWalked terrain.now.edges.now terrain.now.roots.now.roots.items terrain.now.roots.now.first.items (with_node node t) old reached.new self.new) }
-        ensures refused { (t : WalkTree) (old : TableParts) → IsWalked terrain.now.edges.now terrain.now.roots.now.roots.items terrain.now.roots.now.first.items t old reached.old self.old → IfOk result (λ yes. yes ≡ false → IsFirstWrongFrom terrain.now.edges.now terrain.now.roots.now.roots.items (first_at terrain.now.roots.now.first.items t.source) (with_node node t) (length t.nodes)) }
+        ensures answered { (t : WalkTree) (old : TableParts) → IsTreeWalked terrain.now.edges.now terrain.now.roots.now.roots.items terrain.now.roots.now.first.items t old reached.old self.old → IfOk result (λ yes. yes ≡ true → IsTreeWalked terrain.now.edges.now terrain.now.roots.now.roots.items terrain.now.roots.now.first.items (with_node node t) old reached.new self.new) }
+        ensures refused { (t : WalkTree) (old : TableParts) → IsTreeWalked terrain.now.edges.now terrain.now.roots.now.roots.items terrain.now.roots.now.first.items t old reached.old self.old → IfOk result (λ yes. yes ≡ false → IsFirstWrongFrom terrain.now.edges.now terrain.now.roots.now.roots.items (first_at terrain.now.roots.now.first.items t.source) (with_node node t) (length t.nodes)) }
     {
         make_wait(&mut self.waits, self.follow.depth)?;
         make_room(&mut self.path, self.follow.depth)?;
@@ -176,7 +176,7 @@ impl TreeWalk {
         bytes: &'a [u8],
         count: u64,
     ) -> Followed<'a>
-        ensures { TakesNodes bytes.now count result.rest.now result.left (λ nodes. (result.wrong ≡ true → 0 < length nodes) × ((xs : List EdgeOf) → AreSteps xs steps.now → Follows xs roots.now.roots.items roots.now.first.items self.old reached.old self.new reached.new result.wrong nodes)) }
+        ensures { TakesNodes bytes.now count result.rest.now result.left (λ nodes. (result.wrong ≡ true → 0 < length nodes) × ((xs : List EdgeOf) → AreSteps xs steps.now → FollowsNodes xs roots.now.roots.items roots.now.first.items self.old reached.old self.new reached.new result.wrong nodes)) }
     {
         // one length for both buffers, one test of room for both; and each code is that of one end
         if self.waits.len() != self.path.len()
@@ -208,8 +208,8 @@ impl TreeWalk {
     /// Whether nothing is asked any more.
     pub fn is_done(&self) -> bool
         ensures idle { AsksNothing self.now → result ≡ true }
-        ensures whole { (xs : List EdgeOf) (roots : List RootOf) (firsts : List (Option ℕ)) (t : WalkTree) (old new : TableParts) → IsWalked xs roots firsts t old new self.now → result ≡ true → IsWholeFrom xs roots (first_at firsts t.source) t old new }
-        ensures missing { (xs : List EdgeOf) (roots : List RootOf) (firsts : List (Option ℕ)) (t : WalkTree) (old new : TableParts) → IsWalked xs roots firsts t old new self.now → result ≡ false → IsFirstWrongFrom xs roots (first_at firsts t.source) t (length t.nodes) }
+        ensures whole { (xs : List EdgeOf) (roots : List RootOf) (firsts : List (Option ℕ)) (t : WalkTree) (old new : TableParts) → IsTreeWalked xs roots firsts t old new self.now → result ≡ true → IsWholeFrom xs roots (first_at firsts t.source) t old new }
+        ensures missing { (xs : List EdgeOf) (roots : List RootOf) (firsts : List (Option ℕ)) (t : WalkTree) (old new : TableParts) → IsTreeWalked xs roots firsts t old new self.now → result ≡ false → IsFirstWrongFrom xs roots (first_at firsts t.source) t (length t.nodes) }
     {
         self.follow.asked.is_none()
     }

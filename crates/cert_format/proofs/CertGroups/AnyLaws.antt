@@ -5,16 +5,16 @@ use Rattle.sight_names.specs.declared.faults.CertFault.{CertFault}
 use Rattle.block_evidence.specs.SightTree.Spelling.{u16}
 use Rattle.cert_format.specs.declared.cert.Sizes.{Sizes}
 use Rattle.cert_format.specs.Parts.{CertParts}
-use Rattle.cert_format.specs.Grammar.{AreSmall, Spells, triangle_bytes, ray_bytes, pair_bytes, tree_bytes, count_bytes}
+use Rattle.cert_format.specs.Grammar.{AreSmall, SpellsOne, triangle_bytes, ray_bytes, pair_bytes, tree_bytes, count_bytes}
 use Rattle.cert_format.specs.Grammar as one
-use Rattle.cert_format.specs.Reading.{Gives, reading}
+use Rattle.cert_format.specs.Reading.{GivesCert, reading}
 use Rattle.cert_format.proofs.FieldLaws.{IsBytes, bind_ok, ok_is}
 use Rattle.cert_format.proofs.WholeLaws.{reading_takes, spells_again}
 use Rattle.cert_format.specs.declared.cert_groups.cert.CertTwo.{CertTwo}
 use Rattle.cert_format.specs.declared.cert_groups.cert.AnyCert.{AnyCert}
 use Rattle.cert_format.specs.declared.cert_groups.cert.AnyCert.TheVariants.{One, Two}
 use Rattle.cert_format.specs.CertGroups.Grammar.{spelling, IsTwoInOrder, IsAnyInOrder, SpellsTwo, SpellsAny}
-use Rattle.cert_format.specs.CertGroups.Reading.{version_at, parts_at, cert_of, two_at, one_read, two_read, any_at}
+use Rattle.cert_format.specs.CertGroups.Reading.{version_at, parts_at, cert_two_of, two_at, one_read, two_read, any_at}
 use Rattle.cert_format.proofs.CertGroups.GroupLaws.{version_takes, version_again}
 use Rattle.cert_format.proofs.CertGroups.PartLaws.{tail_bytes, parts_take, parts_again, cert_of_parts}
 
@@ -27,10 +27,10 @@ two_takes : (sizes : Sizes) (bytes rest : List ℕ) (c : AnyCert) → AreSmall s
 unfolding spelling
 two_takes sizes bytes rest c small fits front e =
     let d = bind_ok (two_at sizes (length bytes) rest) (λ c. Ok (Two c sizes)) c e in
-    let p = bind_ok (parts_at sizes (length bytes) rest) (λ p. Ok (cert_of p)) d.0 d.1 in
+    let p = bind_ok (parts_at sizes (length bytes) rest) (λ p. Ok (cert_two_of p)) d.0 d.1 in
     let t = parts_take sizes (length bytes) rest p.0 small fits p.1 in
-    let whole : SpellsTwo sizes bytes (cert_of p.0) = record { in_order = t.in_order; fits = t.fits; sectors = small.sectors; spelled = front ∙ ap (λ (r : List ℕ). (codes "DSCT" ++ u16 2) ++ r) t.spelled } in
-    let same : SpellsTwo sizes bytes d.0 = subst (λ (y : CertTwo). SpellsTwo sizes bytes y) {x = cert_of p.0} (ok_is (cert_of p.0) d.0 p.2) whole in
+    let whole : SpellsTwo sizes bytes (cert_two_of p.0) = record { in_order = t.in_order; fits = t.fits; sectors = small.sectors; spelled = front ∙ ap (λ (r : List ℕ). (codes "DSCT" ++ u16 2) ++ r) t.spelled } in
+    let same : SpellsTwo sizes bytes d.0 = subst (λ (y : CertTwo). SpellsTwo sizes bytes y) {x = cert_two_of p.0} (ok_is (cert_two_of p.0) d.0 p.2) whole in
     subst (λ (y : AnyCert). SpellsAny sizes bytes y) {x = Two d.0 sizes} (ok_is (Two d.0 sizes) c d.2) (refl, same)
 
 pub any_takes : (sizes : Sizes) (bytes : List ℕ) (c : AnyCert) → AreSmall sizes → IsBytes bytes → any_at sizes bytes ≡ Ok c → SpellsAny sizes bytes c
@@ -57,7 +57,7 @@ two_parts : (sizes : Sizes) (c : CertTwo) → spelling sizes c ≡ codes "DSCT" 
 unfolding spelling
 two_parts sizes c = refl
 
-one_again : (sizes : Sizes) (bytes : List ℕ) (c : CertParts) → Spells sizes bytes c → any_at sizes bytes ≡ Ok (One c)
+one_again : (sizes : Sizes) (bytes : List ℕ) (c : CertParts) → SpellsOne sizes bytes c → any_at sizes bytes ≡ Ok (One c)
 unfolding any_at
 one_again sizes bytes c s =
     let front : version_at (length bytes) bytes ≡ Ok (1, one_tail c) = ap (version_at (length bytes)) (s.spelled ∙ one_parts c) ∙ version_again (length bytes) 1 (one_tail c) (omega arith) refl in
@@ -83,12 +83,12 @@ any_again sizes bytes (Two c own) s = two_again sizes bytes c s.1 ∙ ap made (s
 
 -- ---- what the call answers
 
-pub found_of : (sizes : Sizes) (bytes : List ℕ) (r : Result AnyCert CertFault) → AreSmall sizes → IsBytes bytes → Gives (λ c. c) r (any_at sizes bytes) → IfOk r (λ c. SpellsAny sizes bytes c)
+pub found_of : (sizes : Sizes) (bytes : List ℕ) (r : Result AnyCert CertFault) → AreSmall sizes → IsBytes bytes → GivesCert (λ c. c) r (any_at sizes bytes) → IfOk r (λ c. SpellsAny sizes bytes c)
 found_of sizes bytes (Ok c) small fits h = any_takes sizes bytes c small fits h
 found_of sizes bytes (Err e) small fits h = tt
 
-pub only_of : (sizes : Sizes) (bytes : List ℕ) (r : Result AnyCert CertFault) (c : AnyCert) → Gives (λ d. d) r (any_at sizes bytes) → SpellsAny sizes bytes c → Gives (λ d. d) r (Ok c)
-only_of sizes bytes r c h s = subst (λ (x : Result AnyCert CertFault). Gives (λ d. d) r x) (any_again sizes bytes c s) h
+pub only_of : (sizes : Sizes) (bytes : List ℕ) (r : Result AnyCert CertFault) (c : AnyCert) → GivesCert (λ d. d) r (any_at sizes bytes) → SpellsAny sizes bytes c → GivesCert (λ d. d) r (Ok c)
+only_of sizes bytes r c h s = subst (λ (x : Result AnyCert CertFault). GivesCert (λ d. d) r x) (any_again sizes bytes c s) h
 
 pub in_order_of : (sizes : Sizes) (bytes : List ℕ) (r : Result AnyCert CertFault) → IfOk r (λ c. SpellsAny sizes bytes c) → IfOk r (λ c. IsAnyInOrder c)
 in_order_of sizes bytes (Ok (One c)) h = tt

@@ -3,7 +3,7 @@ use Rattle.std.proofs.Common.{◌≡◌, ℕ, ◌≤◌, List, ◌++◌, length,
 use Rattle.std.specs.List.{flat_map}
 use Rattle.block_evidence.specs.SightTree.Spelling.{u16}
 use Rattle.cert_format.specs.declared.cert.Sizes.{Sizes}
-use Rattle.cert_format.specs.Reading.{Counts}
+use Rattle.cert_format.specs.Reading.{RecordCounts}
 use Rattle.cert_format.proofs.FieldLaws.{IsBytes, bind_ok, ok_is, Takes, Takes-then}
 use Rattle.cert_format.proofs.RecordLaws.{records_take, ascends_of_chain}
 use Rattle.cert_format.proofs.WholeLaws.{FitCounts, count_bytes, counts_take}
@@ -14,7 +14,7 @@ use Rattle.cert_format.proofs.CertGroups.GroupOrder.{GroupAfter, before_carries}
 use Rattle.cert_format.proofs.CertGroups.GroupLaws.{sizes_take, group_count_takes, group_takes}
 use Rattle.sight_names.specs.Limits.{most_triangles}
 
-abbrev pub counts_in : FrontTwo → Counts
+abbrev pub counts_in : FrontTwo → RecordCounts
 counts_in f = record { triangles = f.counts.triangles; rays = f.counts.rays; listed = f.counts.listed; trees = f.counts.trees }
 
 abbrev pub head_bytes : Sizes → List (List ℕ) → List ℕ

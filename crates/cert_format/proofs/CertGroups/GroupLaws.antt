@@ -7,7 +7,7 @@ use Rattle.std.proofs.lemmas.List.{nil_from_length}
 use Rattle.block_evidence.specs.SightTree.Spelling.{u16}
 use Rattle.cert_format.specs.declared.cert.Sizes.{Sizes}
 use Rattle.cert_format.specs.Grammar.{AreSmall, u32}
-use Rattle.cert_format.specs.Reading.{magic, magic_at}
+use Rattle.cert_format.specs.Reading.{cert_magic, magic_at}
 use Rattle.cert_format.proofs.FieldLaws.{IsBytes, bind_ok, passed_ok, Takes, Takes-then, wide16, wide32, number_takes, number_again, below_takes, below_again, known_takes, known_again}
 use Rattle.cert_format.proofs.RecordLaws.{records_take, records_again, ascends_of_chain, chain_of_ascends}
 use Rattle.cert_format.proofs.TreeLaws.{NumberAfter, number_after_is, number_after_test}
@@ -39,7 +39,7 @@ pub version_again : (total n : ℕ) (rest : List ℕ) → n < 2 ^ 16 → (n == 1
 unfolding version_at magic_at
 version_again total n rest lt h =
     rw (
-      number_again w32 (2 ^ 32) wide32 total magic (u16 n ++ rest) (omega arith),
+      number_again w32 (2 ^ 32) wide32 total cert_magic (u16 n ++ rest) (omega arith),
       number_again w16 (2 ^ 16) wide16 total n rest lt,
       h,
     ) refl

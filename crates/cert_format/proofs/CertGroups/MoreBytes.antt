@@ -7,7 +7,7 @@ use Rattle.sight_names.specs.Limits.{most_triangles}
 use Rattle.sight_names.specs.declared.faults.CertFault.{CertFault}
 use Rattle.sight_names.specs.declared.faults.CertFault.TheVariants as faults
 use Rattle.cert_format.specs.declared.cert.Sizes.{Sizes}
-use Rattle.cert_format.specs.Reading.{◌>>=◌, Counts, begins_at, passed, number_at, number_below, number_known, magic, magic_at, comes_after, triangle_count_at, counts_at, records_at}
+use Rattle.cert_format.specs.Reading.{◌>>=◌, RecordCounts, begins_at, passed, number_at, number_below, number_known, cert_magic, magic_at, comes_after, triangle_count_at, counts_at, records_at}
 use Rattle.cert_format.specs.declared.cert_groups.cert.FrontTwo.{FrontTwo}
 use Rattle.cert_format.specs.CertGroups.Reading.{version_at, group_count_at, size_at, sector_at, sectors_at, group_after, group_at, groups_at, sizes_at, front_two_at}
 
@@ -88,7 +88,7 @@ module _ (more : List ℕ) where
 
   pub magic_stays : (total : ℕ) (bytes : List ℕ) → Stays (longer more) (magic_at total bytes) (magic_at (total + length more) (bytes ++ more))
   unfolding magic_at
-  magic_stays total bytes = known_field w32 (λ n. n == magic) (λ at. faults.BadMagic) total bytes
+  magic_stays total bytes = known_field w32 (λ n. n == cert_magic) (λ at. faults.BadMagic) total bytes
 
   known_stays : (known total : ℕ) (bytes : List ℕ) → Stays (longer more) (number_known known total bytes) (number_known known (total + length more) (bytes ++ more))
   unfolding number_known
@@ -122,16 +122,16 @@ module _ (more : List ℕ) where
   unfolding triangle_count_at
   triangle_count_stays points total bytes = number_field w32 (λ n. not (ltb (most_triangles points) n)) (λ at. faults.OutOfRange at) total bytes
 
-  abbrev counted : ℕ → ℕ → ℕ → ℕ → Counts
+  abbrev counted : ℕ → ℕ → ℕ → ℕ → RecordCounts
   counted triangles rays listed trees = record { triangles = triangles; rays = rays; listed = listed; trees = trees }
 
-  abbrev with_three : ℕ → ℕ → ℕ → ℕ → List ℕ → Result (Counts × List ℕ) CertFault
+  abbrev with_three : ℕ → ℕ → ℕ → ℕ → List ℕ → Result (RecordCounts × List ℕ) CertFault
   with_three t r l total bytes = number_at w32 total bytes >>= λ d. Ok (counted t r l d.0, d.1)
 
-  abbrev with_two : ℕ → ℕ → ℕ → List ℕ → Result (Counts × List ℕ) CertFault
+  abbrev with_two : ℕ → ℕ → ℕ → List ℕ → Result (RecordCounts × List ℕ) CertFault
   with_two t r total bytes = number_at w32 total bytes >>= λ l. with_three t r l.0 total l.1
 
-  abbrev with_one : ℕ → ℕ → List ℕ → Result (Counts × List ℕ) CertFault
+  abbrev with_one : ℕ → ℕ → List ℕ → Result (RecordCounts × List ℕ) CertFault
   with_one t total bytes = number_at w32 total bytes >>= λ r. with_two t r.0 total r.1
 
   counts_stay : (points total : ℕ) (bytes : List ℕ) → Stays (with_longer more) (counts_at points total bytes) (counts_at points (total + length more) (bytes ++ more))
@@ -187,7 +187,7 @@ module _ (more : List ℕ) where
   -- ---- the front
 
   module _ (sizes : Sizes) where
-    abbrev made : ℕ → Counts → List (List ℕ) × List ℕ → Result (FrontTwo × List ℕ) CertFault
+    abbrev made : ℕ → RecordCounts → List (List ℕ) × List ℕ → Result (FrontTwo × List ℕ) CertFault
     made count counts groups = Ok (
       record {
         sizes = record { sectors = count; points = sizes.points; lines = sizes.lines };
@@ -197,7 +197,7 @@ module _ (more : List ℕ) where
       groups.1,
     )
 
-    abbrev with_counts : ℕ → ℕ → Counts × List ℕ → Result (FrontTwo × List ℕ) CertFault
+    abbrev with_counts : ℕ → ℕ → RecordCounts × List ℕ → Result (FrontTwo × List ℕ) CertFault
     with_counts total count counts = groups_at sizes.sectors total None count counts.1 >>= made count counts.0
 
     abbrev with_count : ℕ → ℕ × List ℕ → Result (FrontTwo × List ℕ) CertFault

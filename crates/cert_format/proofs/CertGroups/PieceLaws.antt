@@ -11,7 +11,7 @@ use Rattle.cert_format.specs.declared.cert.Sizes.{Sizes}
 use Rattle.cert_format.specs.declared.cert.Labelled.{Labelled}
 use Rattle.cert_format.specs.Grammar.{IsRayInRange, HasShortSides, triangle_bytes, ray_bytes, pair_bytes, tree_bytes}
 use Rattle.cert_format.specs.declared.cert_groups.cert.CertTwo.{CertTwo}
-use Rattle.cert_format.specs.CertGroups.Grammar.{header_bytes, group_bytes, spelling}
+use Rattle.cert_format.specs.CertGroups.Grammar.{grouped_header_bytes, group_bytes, spelling}
 
 -- what comes first of three parts is given behind what was given before
 pub gave : (at n : ℕ) (old new x after a b : List ℕ) → take (at + n) new ≡ take at old ++ take n x → after ≡ drop n x → take at old ++ (x ++ a ++ b) ≡ take (at + n) new ++ (after ++ a ++ b)
@@ -61,7 +61,7 @@ arranged : (h s g b n t r p d : List ℕ) → s ≡ [] → b ≡ [] → n ≡ []
 arranged h s g b n t r p d es eb en = rw (es, eb, en) (simp (append_assoc, append-nil))
 
 pub whole : (sizes : Sizes) (c : CertTwo) (h s : List ℕ) (gs : List (List ℕ)) (b n : List ℕ) (ts : List Labelled) (rs : List PairRay) (ps : List Pair) (ds : List Tree)
-    → h ≡ header_bytes sizes c → s ≡ [] → gs ≡ c.groups → b ≡ [] → n ≡ [] → ts ≡ c.cert.triangles → rs ≡ c.cert.rays → ps ≡ c.listed → ds ≡ c.cert.trees
+    → h ≡ grouped_header_bytes sizes c → s ≡ [] → gs ≡ c.groups → b ≡ [] → n ≡ [] → ts ≡ c.cert.triangles → rs ≡ c.cert.rays → ps ≡ c.listed → ds ≡ c.cert.trees
     → (h ++ flat_map u16 s ++ flat_map group_bytes gs) ++ (b ++ n ++ flat_map triangle_bytes ts ++ flat_map ray_bytes rs ++ flat_map pair_bytes ps ++ flat_map tree_bytes ds) ≡ spelling sizes c
 unfolding spelling
 whole sizes c h s gs b n ts rs ps ds eh es eg eb en et er ep ed =

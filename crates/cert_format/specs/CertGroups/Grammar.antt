@@ -6,7 +6,7 @@ use Rattle.sight_names.specs.Order.{Ascends, PairBefore}
 use Rattle.sight_names.specs.Groups.{AscendStrictly, ListBefore}
 use Rattle.block_evidence.specs.SightTree.Spelling.{u16}
 use Rattle.cert_format.specs.declared.cert.Sizes.{Sizes}
-use Rattle.cert_format.specs.Grammar.{IsInOrder, IsPairInRange, FitsFields, Spells, triangle_bytes, ray_bytes, pair_bytes, tree_bytes, count_bytes}
+use Rattle.cert_format.specs.Grammar.{IsOneInOrder, IsPairInRange, FitsFields, SpellsOne, triangle_bytes, ray_bytes, pair_bytes, tree_bytes, count_bytes}
 use Rattle.cert_format.specs.declared.cert_groups.cert.CertTwo.{CertTwo}
 use Rattle.cert_format.specs.declared.cert_groups.cert.AnyCert.{AnyCert}
 use Rattle.cert_format.specs.declared.cert_groups.cert.AnyCert.TheVariants.{One, Two}
@@ -36,7 +36,7 @@ pub record IsTwoInOrder (sizes : Sizes) (c : CertTwo) : Type 0 where
   pub groups_ascend : Ascends ListBefore c.groups
   -- the rest is as in version 1, with groups in the place of sectors
   pub grouped : c.cert.sizes ≡ grouped_sizes sizes c.groups
-  pub in_order : IsInOrder c.cert
+  pub in_order : IsOneInOrder c.cert
   -- but for the listed pairs
   pub no_pairs : c.cert.listed ≡ []
   pub listed : AllByRecursion (IsPairInRange sizes) c.listed
@@ -54,14 +54,14 @@ abbrev pub group_bytes : List ℕ → List ℕ
 group_bytes group = u16 (length group) ++ flat_map u16 group
 
 -- the magic, version 2, the map's sizes, and how many groups there are
-abbrev pub front_bytes : Sizes → ℕ → List ℕ
-front_bytes sizes groups = codes "DSCT" ++ u16 2 ++ u16 sizes.sectors ++ u16 sizes.points ++ u16 sizes.lines ++ u16 groups
+abbrev pub grouped_front_bytes : Sizes → ℕ → List ℕ
+grouped_front_bytes sizes groups = codes "DSCT" ++ u16 2 ++ u16 sizes.sectors ++ u16 sizes.points ++ u16 sizes.lines ++ u16 groups
 
-abbrev pub header_bytes : Sizes → CertTwo → List ℕ
-header_bytes sizes c = front_bytes sizes (length c.groups) ++ count_bytes (length c.cert.triangles) (length c.cert.rays) (length c.listed) (length c.cert.trees)
+abbrev pub grouped_header_bytes : Sizes → CertTwo → List ℕ
+grouped_header_bytes sizes c = grouped_front_bytes sizes (length c.groups) ++ count_bytes (length c.cert.triangles) (length c.cert.rays) (length c.listed) (length c.cert.trees)
 
 unfoldable pub spelling : Sizes → CertTwo → List ℕ
-spelling sizes c = header_bytes sizes c ++ flat_map group_bytes c.groups ++ flat_map triangle_bytes c.cert.triangles ++ flat_map ray_bytes c.cert.rays ++ flat_map pair_bytes c.listed ++ flat_map tree_bytes c.cert.trees
+spelling sizes c = grouped_header_bytes sizes c ++ flat_map group_bytes c.groups ++ flat_map triangle_bytes c.cert.triangles ++ flat_map ray_bytes c.cert.rays ++ flat_map pair_bytes c.listed ++ flat_map tree_bytes c.cert.trees
 
 -- the bytes spell the certificate of version 2, for a map of these sizes
 pub record SpellsTwo (sizes : Sizes) (bytes : List ℕ) (c : CertTwo) : Type 0 where
@@ -72,10 +72,10 @@ pub record SpellsTwo (sizes : Sizes) (bytes : List ℕ) (c : CertTwo) : Type 0 w
 
 -- the bytes spell the certificate of version 1 or 2
 abbrev pub SpellsAny : Sizes → List ℕ → AnyCert → Type 0
-SpellsAny sizes bytes (One c) = Spells sizes bytes c
+SpellsAny sizes bytes (One c) = SpellsOne sizes bytes c
 SpellsAny sizes bytes (Two c own) = (own ≡ sizes) × SpellsTwo sizes bytes c
 
 -- the sizes of the map that the certificate is about
-abbrev pub sizes_of : AnyCert → Sizes
-sizes_of (One c) = c.sizes
-sizes_of (Two c sizes) = sizes
+abbrev pub sizes_of_listing : AnyCert → Sizes
+sizes_of_listing (One c) = c.sizes
+sizes_of_listing (Two c sizes) = sizes

@@ -113,13 +113,13 @@ parts_at sizes total bytes = do
   passed (length trees.1 == 0) (faults.Trailing (begins_at total trees.1))
       (record { sizes = front.0.sizes; groups = front.0.groups; triangles = triangles.0; rays = rays.0; listed = listed.0; trees = trees.0 })
 
-abbrev pub cert_of : PartsTwo → CertTwo
-cert_of p = record { groups = p.groups; cert = record { sizes = p.sizes; triangles = p.triangles; rays = p.rays; listed = []; trees = p.trees }; listed = p.listed }
+abbrev pub cert_two_of : PartsTwo → CertTwo
+cert_two_of p = record { groups = p.groups; cert = record { sizes = p.sizes; triangles = p.triangles; rays = p.rays; listed = []; trees = p.trees }; listed = p.listed }
 
 abbrev pub two_at : Sizes → ℕ → List ℕ → Result CertTwo CertFault
 two_at sizes total bytes = do
   parts ← parts_at sizes total bytes
-  Ok (cert_of parts)
+  Ok (cert_two_of parts)
 
 abbrev pub one_read : Sizes → List ℕ → Result AnyCert CertFault
 one_read sizes bytes = do

@@ -3,7 +3,7 @@
 ghost use Rattle.std.specs.Prelude.{◌≡◌, ◌+◌, ◌<◌, ◌≤◌, [], ◌++◌, length, take, drop, min, false, IsTrue};
 ghost use Rattle.block_evidence.specs.SightTree.Spelling.{u16};
 ghost use Rattle.cert_format.specs.Grammar.{AreSmall};
-ghost use Rattle.cert_format.specs.CertGroups.Grammar.{IsTwoInOrder, front_bytes, header_bytes};
+ghost use Rattle.cert_format.specs.CertGroups.Grammar.{IsTwoInOrder, grouped_front_bytes, grouped_header_bytes};
 ghost use Rattle.cert_format.specs.CertGroups.Pieces.{front_left};
 
 use crate::cert_groups::cert::{CertTwo, Group};
@@ -14,7 +14,7 @@ use std::marker::Model;
 
 /// The magic, version 2, the sizes, and how many groups there are.
 fn front_of(sizes: Sizes, groups: u16) -> [u8; 14]
-    ensures spelled { result ≡ front_bytes sizes groups }
+    ensures spelled { result ≡ grouped_front_bytes sizes groups }
     ensures small { AreSmall sizes }
 {
     let [sectors, sectors_high] = sizes.sectors.to_le_bytes();
@@ -43,7 +43,7 @@ fn front_of(sizes: Sizes, groups: u16) -> [u8; 14]
 /// The header of a certificate of version 2.
 pub fn header_of(cert: &CertTwo, sizes: Sizes) -> [u8; 30]
     requires { IsTwoInOrder sizes cert.now }
-    ensures spelled { result ≡ header_bytes sizes cert.now }
+    ensures spelled { result ≡ grouped_header_bytes sizes cert.now }
     ensures small { AreSmall sizes }
 {
     let front = front_of(sizes, cert.groups.as_slice().len() as u16);

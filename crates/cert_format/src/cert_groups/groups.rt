@@ -1,7 +1,7 @@
 //! The table of groups.
 
 ghost use Rattle.std.specs.Prelude.{◌≡◌, None};
-ghost use Rattle.cert_format.specs.Reading.{Gives};
+ghost use Rattle.cert_format.specs.Reading.{GivesCert};
 ghost use Rattle.cert_format.specs.CertGroups.Reading.{group_after, last_of, sectors_at, group_at, groups_at};
 
 use crate::cert_groups::cert::Group;
@@ -18,7 +18,7 @@ fn sectors_of(
     count: u16,
     bytes: &[u8],
 ) -> Result<(Vec<u16>, &[u8]), CertFault>
-    ensures { Gives (λ x. (x.0.items, x.1.now)) result (sectors_at sectors total None count bytes.now) }
+    ensures { GivesCert (λ x. (x.0.items, x.1.now)) result (sectors_at sectors total None count bytes.now) }
 {
     let mut group = Vec::new(alloc);
     let mut last = None;
@@ -51,7 +51,7 @@ fn group_of<'a>(
     groups: &[Group],
     bytes: &'a [u8],
 ) -> Result<(Group, &'a [u8]), CertFault>
-    ensures { Gives (λ x. (x.0, x.1.now)) result (group_at sectors total (last_of groups.now) bytes.now) }
+    ensures { GivesCert (λ x. (x.0, x.1.now)) result (group_at sectors total (last_of groups.now) bytes.now) }
 {
     let (count, rest) = size_of_group(total, bytes)?;
     let (group, rest) = sectors_of(alloc, sectors, total, count, rest)?;
@@ -72,7 +72,7 @@ pub fn groups_of(
     count: u16,
     bytes: &[u8],
 ) -> Result<(Vec<Group>, &[u8]), CertFault>
-    ensures { Gives (λ x. (x.0.items, x.1.now)) result (groups_at sectors total None count bytes.now) }
+    ensures { GivesCert (λ x. (x.0.items, x.1.now)) result (groups_at sectors total None count bytes.now) }
 {
     let mut groups = Vec::new(alloc);
     let mut rest = bytes;

@@ -2,7 +2,7 @@
 
 ghost use Rattle.std.specs.Prelude.{◌≡◌, ◌↔◌, ◌<◌, [], ◌++◌, length, take, drop, min};
 ghost use Rattle.cert_format.specs.declared.cert_groups.cert.AnyCert.TheVariants.{One};
-ghost use Rattle.cert_format.specs.CertGroups.Grammar.{IsTwoInOrder, IsAnyInOrder, SpellsTwo, SpellsAny, sizes_of};
+ghost use Rattle.cert_format.specs.CertGroups.Grammar.{IsTwoInOrder, IsAnyInOrder, SpellsTwo, SpellsAny, sizes_of_listing};
 
 use crate::cert_groups::cert::{AnyCert, CertTwo};
 use crate::cert_groups::front::{Front, header_of};
@@ -74,7 +74,7 @@ impl<'a> AnyPrinter<'a> {
     /// Before the first piece.
     pub fn new(cert: &'a AnyCert) -> AnyPrinter<'a>
         requires { IsAnyInOrder cert.now }
-        ensures { SpellsAny (sizes_of cert.now) result cert.now }
+        ensures { SpellsAny (sizes_of_listing cert.now) result cert.now }
     {
         match cert {
             AnyCert::One(one) => AnyPrinter::of_one(one),

@@ -1,7 +1,7 @@
 //! What comes before the parts of a certificate of version 2.
 
 ghost use Rattle.cert_format.specs.Grammar.{AreSmall};
-ghost use Rattle.cert_format.specs.Reading.{Gives, GivesExactly};
+ghost use Rattle.cert_format.specs.Reading.{GivesCert, GivesExactly};
 ghost use Rattle.cert_format.specs.CertGroups.Reading.{sizes_at, front_two_at};
 
 use crate::Sizes;
@@ -32,7 +32,7 @@ pub fn front_two_of(
     bytes: &[u8],
 ) -> Result<(FrontTwo, &[u8]), CertFault>
     ensures small { AreSmall sizes }
-    ensures exact { Gives (λ x. (x.0, x.1.now)) result (front_two_at sizes total bytes.now) }
+    ensures exact { GivesCert (λ x. (x.0, x.1.now)) result (front_two_at sizes total bytes.now) }
 {
     let rest = behind_sizes(sizes, total, bytes)?;
     let (count, rest) = group_count(sizes.points, total, rest)?;

@@ -1,7 +1,7 @@
 //! The whole spelling of a certificate of version 1 or 2.
 
 ghost use Rattle.std.specs.Prelude.{◌≡◌, IfOk};
-ghost use Rattle.cert_format.specs.CertGroups.Grammar.{IsAnyInOrder, SpellsAny, sizes_of};
+ghost use Rattle.cert_format.specs.CertGroups.Grammar.{IsAnyInOrder, SpellsAny, sizes_of_listing};
 
 use crate::Cert;
 use crate::cert_groups::cert::AnyCert;
@@ -55,7 +55,7 @@ pub fn all_pieces(alloc: Global, room: usize, printer: AnyPrinter<'_>) -> Result
 /// The one spelling of the certificate. One of version 2 has its ranges and orders.
 pub fn print_any(alloc: Global, cert: &AnyCert) -> Result<Vec<u8>, Memory>
     requires { IsAnyInOrder cert.now }
-    ensures { IfOk result (λ v. SpellsAny (sizes_of cert.now) v.items cert.now) }
+    ensures { IfOk result (λ v. SpellsAny (sizes_of_listing cert.now) v.items cert.now) }
 {
     all_pieces(alloc, room_for(cert), AnyPrinter::new(cert))
 }

@@ -7,7 +7,7 @@ use Rattle.sight_names.specs.Limits.{most_triangles}
 use Rattle.block_evidence.specs.declared.sight_tree.Node.{Node}
 use Rattle.block_evidence.specs.SightTree.Spelling.{u16}
 use Rattle.cert_format.specs.declared.cert.Sizes.{Sizes}
-use Rattle.cert_format.specs.Grammar.{AreSmall, IsInOrder, FitsFields, u64, triangle_bytes, ray_bytes}
+use Rattle.cert_format.specs.Grammar.{AreSmall, IsOneInOrder, FitsFields, u64, triangle_bytes, ray_bytes}
 use Rattle.cert_format.specs.Reading.{triangle_at, ray_at}
 use Rattle.cert_format.proofs.FieldLaws.{IsBytes, bind_ok, passed_ok, Takes, Takes-then}
 use Rattle.cert_format.proofs.RecordLaws.{records_take, records_again, ascends_of_chain, chain_of_ascends}
@@ -21,7 +21,7 @@ use Rattle.cert_format.proofs.CertGroups.GroupOrder.{GroupAfter, before_carries}
 use Rattle.cert_format.proofs.CertGroups.GroupLaws.{sizes_take, sizes_again, group_takes, group_again}
 use Rattle.certificates.specs.declared.cert_exact.cert.ExactParts.{ExactParts}
 use Rattle.certificates.specs.declared.cert_exact.cert.CountsThree.{CountsThree}
-use Rattle.certificates.specs.CertExact.Grammar.{trees_from, as_two, header_bytes, nodes_bytes, length_bytes, spelling, SpellsThree}
+use Rattle.certificates.specs.CertExact.Grammar.{trees_from, as_two, exact_header_bytes, nodes_bytes, length_bytes, spelling, SpellsThree}
 use Rattle.certificates.specs.CertExact.Reading.{with_sectors, lengths_at, parts_at, exact_at}
 use Rattle.certificates.proofs.CertExact.TreesLaws.{sizes_spelled, many_sizes, fit_sizes, lengths_take, lengths_again, trees_take, trees_again}
 use Rattle.certificates.proofs.CertExact.HeaderLaws.{FitCounts, count_bytes, version_takes, version_again, counts_take, counts_again}
@@ -65,7 +65,7 @@ exact_takes sizes bytes c small fits e =
     let measured : Takes r.0.1 (flat_map length_bytes trees) l.0.1 = subst (λ (b : List ℕ). Takes r.0.1 b l.0.1) (ap (λ (ls : List ℕ). flat_map u64 ls) (sym td.sizes) ∙ sizes_spelled trees) tl.takes in
     let h0 : List ℕ = codes "DSCT" ++ u16 3 in
     let h1 : List ℕ = u16 sizes.sectors ++ u16 sizes.points ++ u16 sizes.lines in
-    let head : List ℕ = header_bytes made in
+    let head : List ℕ = exact_header_bytes made in
     let e0 = Takes-then bytes h0 v.0 h1 s.0 tv ts in
     let e1 : Takes bytes head k.0.1 = Takes-then bytes (h0 ++ h1) s.0 (count_bytes counts) k.0.1 e0 counted in
     let e2 = Takes-then bytes head k.0.1 (flat_map group_bytes groups) g.0.1 e1 tg.takes in
@@ -78,7 +78,7 @@ exact_takes sizes bytes c small fits e =
     let above = ascends_of_chain (triangle_at own n) (λ x. Some x) triangle_bytes (FitsLabelled own) TriangleAfter (λ x y z. above_carries x.triangle y.triangle z.triangle) None t.0.0 tt'.chain in
     let as_many : length trees ≡ k.0.0.groups = sym (many_sizes trees) ∙ ap length td.sizes ∙ tl.count in
     let grouped : own ≡ grouped_sizes sizes groups = ap (λ (j : ℕ). with_sectors sizes j) (sym tg.count) in
-    let own_in_order : IsInOrder (record { sizes = own; triangles = t.0.0; rays = r.0.0; listed = []; trees = trees_from 0 trees }) = record {
+    let own_in_order : IsOneInOrder (record { sizes = own; triangles = t.0.0; rays = r.0.0; listed = []; trees = trees_from 0 trees }) = record {
       few = subst (λ (j : ℕ). j ≤ most_triangles sizes.points) (sym tt'.count) tk.1.triangles;
       triangles = triangles_are own t.0.0 tt'.fit above;
       sectors = sectors_are own t.0.0 tt'.fit;
@@ -95,7 +95,7 @@ exact_takes sizes bytes c small fits e =
       groups = tg.fit;
       groups_ascend = ascends_of_chain (group_at sizes.sectors n) (λ x. Some x) group_bytes (IsGroupInOrder sizes.sectors) GroupAfter before_carries None groups tg.chain;
       grouped = refl;
-      in_order = subst (λ (z : Sizes). IsInOrder (record { sizes = z; triangles = t.0.0; rays = r.0.0; listed = []; trees = trees_from 0 trees })) grouped own_in_order;
+      in_order = subst (λ (z : Sizes). IsOneInOrder (record { sizes = z; triangles = t.0.0; rays = r.0.0; listed = []; trees = trees_from 0 trees })) grouped own_in_order;
       no_pairs = refl;
       listed = tt;
       listed_ascend = none_ascend;
@@ -115,7 +115,7 @@ parts_again : (total : ℕ) (c : ExactParts) → AreSmall c.sizes → IsTwoInOrd
 unfolding parts_at spelling
 parts_again total c small is one_each fits short =
     let s = grouped_sizes c.sizes c.groups in
-    let inner : IsInOrder (as_two c).cert = is.in_order in
+    let inner : IsOneInOrder (as_two c).cert = is.in_order in
     let many : s.sectors < 2 ^ 16 = small_of c.sizes.points (length c.groups) is.few in
     let counts : CountsThree = record { groups = length c.groups; triangles = length c.triangles; rays = length c.rays } in
     let fit_counts : FitCounts c.sizes.points counts = record { groups = is.few; triangles = inner.few; rays = few_rays s c.rays many inner.rays inner.rays_ascend } in
@@ -125,7 +125,7 @@ parts_again total c small is one_each fits short =
     let rs = flat_map ray_bytes c.rays in
     let ls = flat_map length_bytes c.trees in
     let ds = flat_map nodes_bytes c.trees in
-    let regrouped : spelling c ≡ codes "DSCT" ++ (u16 3 ++ (sb ++ (count_bytes counts ++ (gs ++ (ts ++ (rs ++ (ls ++ (ds ++ [])))))))) = in_parts (header_bytes c) gs ts rs ls ds in
+    let regrouped : spelling c ≡ codes "DSCT" ++ (u16 3 ++ (sb ++ (count_bytes counts ++ (gs ++ (ts ++ (rs ++ (ls ++ (ds ++ [])))))))) = in_parts (exact_header_bytes c) gs ts rs ls ds in
     let each = labelled_fit s c.triangles (λ k l h. inner.triangles.each k l.triangle (got_back c.triangles k l h)) inner.sectors in
     let rays = pair_rays_fit s c.rays inner.rays fits.rays in
     let trees = all_in_order s 0 c.trees inner.trees fits.trees in

@@ -5,7 +5,7 @@ use Rattle.std.proofs.lemmas.Bool.{ltb-false, le-ltb, eqb-true, not-true}
 use Rattle.sight_names.specs.Limits.{most_triangles}
 use Rattle.block_evidence.specs.SightTree.Spelling.{u16}
 use Rattle.cert_format.specs.Grammar.{u32}
-use Rattle.cert_format.specs.Reading.{magic, magic_at, triangle_count_at}
+use Rattle.cert_format.specs.Reading.{cert_magic, magic_at, triangle_count_at}
 use Rattle.cert_format.proofs.FieldLaws.{IsBytes, bind_ok, passed_ok, ok_is, Takes, Takes-then, wide16, wide32, number_takes, number_again}
 use Rattle.cert_format.proofs.LimitLaws.{few_of}
 use Rattle.cert_format.proofs.CertGroups.GroupLaws.{group_count_takes, group_count_again}
@@ -30,7 +30,7 @@ pub version_again : (total : ℕ) (rest : List ℕ) → version_at total (codes 
 unfolding version_at magic_at
 version_again total rest =
     rw (
-      number_again w32 (2 ^ 32) wide32 total magic (u16 3 ++ rest) (omega arith),
+      number_again w32 (2 ^ 32) wide32 total cert_magic (u16 3 ++ rest) (omega arith),
       number_again w16 (2 ^ 16) wide16 total 3 rest (omega arith),
     ) refl
 

@@ -9,7 +9,7 @@ use Rattle.cert_format.specs.declared.cert.Labelled.{Labelled}
 use Rattle.cert_format.specs.Grammar.{triangle_bytes, ray_bytes}
 use Rattle.cert_format.specs.CertGroups.Grammar.{group_bytes}
 use Rattle.certificates.specs.declared.cert_exact.cert.ExactParts.{ExactParts}
-use Rattle.certificates.specs.CertExact.Grammar.{header_bytes, length_bytes, nodes_bytes, spelling}
+use Rattle.certificates.specs.CertExact.Grammar.{exact_header_bytes, length_bytes, nodes_bytes, spelling}
 
 -- what comes first of two parts is given behind what was given before
 pub gave : (at n : ℕ) (old new x after a : List ℕ) → take (at + n) new ≡ take at old ++ take n x → after ≡ drop n x → take at old ++ (x ++ a) ≡ take (at + n) new ++ (after ++ a)
@@ -24,7 +24,7 @@ front_long n buf le = omega (arith, length-take n buf, le)
 arranged : (h s g t r l n d : List ℕ) → s ≡ [] → n ≡ [] → (h ++ s ++ g ++ t ++ r ++ l) ++ (n ++ d) ≡ h ++ g ++ t ++ r ++ l ++ d
 arranged h s g t r l n d es en = rw (es, en) (simp (append_assoc, append-nil))
 
-pub whole : (c : ExactParts) (h s n : List ℕ) (gs : List (List ℕ)) (ts : List Labelled) (rs : List PairRay) (ds : List (List Node)) → h ≡ header_bytes c → s ≡ [] → n ≡ [] → gs ≡ c.groups → ts ≡ c.triangles → rs ≡ c.rays → ds ≡ c.trees
+pub whole : (c : ExactParts) (h s n : List ℕ) (gs : List (List ℕ)) (ts : List Labelled) (rs : List PairRay) (ds : List (List Node)) → h ≡ exact_header_bytes c → s ≡ [] → n ≡ [] → gs ≡ c.groups → ts ≡ c.triangles → rs ≡ c.rays → ds ≡ c.trees
     → (h ++ flat_map u16 s ++ flat_map group_bytes gs ++ flat_map triangle_bytes ts ++ flat_map ray_bytes rs ++ flat_map length_bytes ds) ++ (n ++ flat_map nodes_bytes ds) ≡ spelling c
 unfolding spelling
 whole c h s n gs ts rs ds eh es en eg et er ed =

@@ -11,23 +11,23 @@ use Rattle.block_evidence.specs.declared.sight_tree.Tree.{Tree}
 use Rattle.cert_format.specs.declared.cert.Sizes.{Sizes}
 use Rattle.cert_format.specs.declared.cert.Labelled.{Labelled}
 use Rattle.cert_format.specs.Parts.{CertParts}
-use Rattle.cert_format.specs.Reading.{◌>>=◌, Fails, triangles_at, reading}
+use Rattle.cert_format.specs.Reading.{◌>>=◌, FailsCert, triangles_at, reading}
 use Rattle.cert_format.proofs.FieldLaws.{IsBytes}
 use Rattle.cert_format.proofs.WholeLaws.{count_bytes}
 use Rattle.cert_format.specs.declared.cert_groups.cert.AnyCert.{AnyCert}
 use Rattle.cert_format.specs.declared.cert_groups.cert.AnyCert.TheVariants.{One, Two}
 use Rattle.cert_format.specs.declared.cert_groups.cert.FrontTwo.{FrontTwo}
-use Rattle.cert_format.specs.CertGroups.Reading.{PartsTwo, version_at, front_two_at, parts_at, cert_of, two_read, any_at}
+use Rattle.cert_format.specs.CertGroups.Reading.{PartsTwo, version_at, front_two_at, parts_at, cert_two_of, two_read, any_at}
 use Rattle.cert_format.specs.CertGroups.Grammar.{group_bytes}
 use Rattle.cert_format.proofs.CertGroups.GroupLaws.{version_takes}
 use Rattle.cert_format.proofs.CertGroups.FrontLaws.{counts_in, head_bytes, front_takes}
 use Rattle.cert_format.proofs.CertGroups.MoreBytes.{IsToldAgain, Stays, with_longer, version_stays, front_stays}
 use Rattle.cert_format.proofs.CertGroups.Versions.{one_or_two, read_as_one, read_as_two, no_version}
 use Rattle.certificates.specs.declared.cert_parts.part.Part.{Part}
-use Rattle.certificates.specs.CertParts.Parts.{parts_of, reading_parts, two_parts_of, AnyParts, any_parts_of, reading_any_parts}
+use Rattle.certificates.specs.CertParts.Parts.{parts_of_listing, reading_parts, two_parts_of, AnyParts, any_parts_of, reading_any_parts}
 use Rattle.certificates.specs.CertParts.Left.{ReaderState, triangles_left, left_at, parts_left}
 use Rattle.certificates.specs.CertParts.Steps.{two_awaited}
-use Rattle.certificates.specs.CertParts.Beginning.{cut_at, parts_from, IsBegun}
+use Rattle.certificates.specs.CertParts.Beginning.{cut_at, parts_from, IsListingBegun}
 use Rattle.certificates.proofs.CertParts.FromBeginning.{behind_triangles, by_triangles}
 use Rattle.cert_format.proofs.Loop.{fails}
 
@@ -43,9 +43,9 @@ cut_is (faults.Short at) k e = cc
 cut_is f k e = absurd cc
 
 -- of memory nothing is told; of another fault all that is told is told of what is read
-by_fault : {A B : Type 0} (f g : CertFault) (read : Result A CertFault) (again : Result A CertFault) (made : Result B CertFault) → Err g ≡ cut_at f → Fails f read → ((h : CertFault) → read ≡ Err h → IsToldAgain h again) → ((h : CertFault) → again ≡ Err h → made ≡ Err h) → Fails g made
+by_fault : {A B : Type 0} (f g : CertFault) (read : Result A CertFault) (again : Result A CertFault) (made : Result B CertFault) → Err g ≡ cut_at f → FailsCert f read → ((h : CertFault) → read ≡ Err h → IsToldAgain h again) → ((h : CertFault) → again ≡ Err h → made ≡ Err h) → FailsCert g made
 by_fault (faults.Short at) g read again made e h stays tells = absurd cc
-by_fault (faults.Memory u) g read again made e h stays tells = let same : faults.Memory u ≡ g = cc in subst (λ (k : CertFault). Fails k made) same tt
+by_fault (faults.Memory u) g read again made e h stays tells = let same : faults.Memory u ≡ g = cc in subst (λ (k : CertFault). FailsCert k made) same tt
 by_fault f g read again made e h stays tells = fails g made (tells g (told_again f g again e (stays f h)))
 
 -- what stays is told again
@@ -60,14 +60,14 @@ stays_read {A} turned r read x s e = subst (λ (y : Result A CertFault). Stays t
 unread : (sizes : Sizes) (bytes : List ℕ) (f : CertFault) → any_at sizes bytes ≡ Err f → reading_any_parts sizes bytes ≡ Err f
 unread sizes bytes f e = rw e refl
 
-one_parts : (r : Result CertParts CertFault) → ((r >>= λ c. Ok (One c)) >>= λ c. Ok (any_parts_of c)) ≡ ((r >>= λ c. Ok (parts_of c)) >>= λ ps. Ok (None, ps))
+one_parts : (r : Result CertParts CertFault) → ((r >>= λ c. Ok (One c)) >>= λ c. Ok (any_parts_of c)) ≡ ((r >>= λ c. Ok (parts_of_listing c)) >>= λ ps. Ok (None, ps))
 one_parts (Ok c) = refl
 one_parts (Err f) = refl
 
 abbrev parts_in : PartsTwo → AnyParts
-parts_in p = (Some p.groups, two_parts_of (cert_of p))
+parts_in p = (Some p.groups, two_parts_of (cert_two_of p))
 
-two_parts : (sizes : Sizes) (r : Result PartsTwo CertFault) → (((r >>= λ p. Ok (cert_of p)) >>= λ c. Ok (Two c sizes)) >>= λ c. Ok (any_parts_of c)) ≡ (r >>= λ p. Ok (parts_in p))
+two_parts : (sizes : Sizes) (r : Result PartsTwo CertFault) → (((r >>= λ p. Ok (cert_two_of p)) >>= λ c. Ok (Two c sizes)) >>= λ c. Ok (any_parts_of c)) ≡ (r >>= λ p. Ok (parts_in p))
 two_parts sizes (Ok p) = refl
 two_parts sizes (Err f) = refl
 
@@ -106,7 +106,7 @@ module _ (sizes : Sizes) (bytes more : List ℕ) where
 
   -- ---- another version
 
-  pub version_fault : (f g : CertFault) → version_at (length bytes) bytes ≡ Err f → Err g ≡ cut_at f → Fails g (reading_any_parts sizes (bytes ++ more))
+  pub version_fault : (f g : CertFault) → version_at (length bytes) bytes ≡ Err f → Err g ≡ cut_at f → FailsCert g (reading_any_parts sizes (bytes ++ more))
   version_fault f g e cut =
       let again = version_at (length (bytes ++ more)) (bytes ++ more) in
       let same : again ≡ Err g = told_again f g again cut (stays_told (with_longer more) (version_at (length bytes) bytes) again version_again f e) in
@@ -130,7 +130,7 @@ module _ (sizes : Sizes) (bytes more : List ℕ) where
     unfolding parts_at
     no_front h e = unread sizes (bytes ++ more) h (as_two ∙ rw e refl)
 
-    pub front_fault : (f g : CertFault) → Fails f (front_two_at sizes (length bytes) behind) → Err g ≡ cut_at f → Fails g (reading_any_parts sizes (bytes ++ more))
+    pub front_fault : (f g : CertFault) → FailsCert f (front_two_at sizes (length bytes) behind) → Err g ≡ cut_at f → FailsCert g (reading_any_parts sizes (bytes ++ more))
     front_fault f g h cut =
         let r = front_two_at sizes (length bytes) behind in
         let again = front_two_at sizes (length (bytes ++ more)) (behind ++ more) in
@@ -155,7 +155,7 @@ module _ (sizes : Sizes) (bytes : List ℕ) where
   pub version_cut : (f : CertFault) (at : ℕ) → version_at (length bytes) bytes ≡ Err f → Ok at ≡ cut_at f → reading_any_parts sizes bytes ≡ Err (faults.Short at)
   version_cut f at e cut = unread sizes bytes (faults.Short at) (no_version sizes bytes (faults.Short at) (e ∙ ap (λ (h : CertFault). Err h) (cut_is f at cut)))
 
-  pub one_begun : (reader : ReaderState) (n : ℕ) (behind : List ℕ) → version_at (length bytes) bytes ≡ Ok (n, behind) → n ≢ 2 → ((all : List ℕ) → parts_left reader all ≡ reading_parts sizes all) → reader.given ≡ 0 → IsBegun sizes bytes None reader bytes
+  pub one_begun : (reader : ReaderState) (n : ℕ) (behind : List ℕ) → version_at (length bytes) bytes ≡ Ok (n, behind) → n ≢ 2 → ((all : List ℕ) → parts_left reader all ≡ reading_parts sizes all) → reader.given ≡ 0 → IsListingBegun sizes bytes None reader bytes
   one_begun reader n behind e not_two left none = record {
     parts = λ more. one_read_on sizes bytes more reader n behind e not_two (left (bytes ++ more));
     given = omega (arith, none);
@@ -173,11 +173,11 @@ module _ (sizes : Sizes) (bytes : List ℕ) where
         let t = (front_takes sizes (length bytes) behind (f, rest) fits e).takes in
         omega (arith, ap length v.parts, ap length t.parts, length-append (codes "DSCT" ++ u16 2) behind, length-append (head_bytes sizes f.groups ++ count_bytes (counts_in f) ++ flat_map group_bytes f.groups) rest)
 
-    pub front_cut : (f : CertFault) (at : ℕ) → Fails f (front_two_at sizes (length bytes) behind) → Ok at ≡ cut_at f → reading_any_parts sizes bytes ≡ Err (faults.Short at)
-    front_cut f at h cut = front_cut_is at (subst (λ (g : CertFault). Fails g (front_two_at sizes (length bytes) behind)) (cut_is f at cut) h)
+    pub front_cut : (f : CertFault) (at : ℕ) → FailsCert f (front_two_at sizes (length bytes) behind) → Ok at ≡ cut_at f → reading_any_parts sizes bytes ≡ Err (faults.Short at)
+    front_cut f at h cut = front_cut_is at (subst (λ (g : CertFault). FailsCert g (front_two_at sizes (length bytes) behind)) (cut_is f at cut) h)
 
     pub two_begun : (f : FrontTwo) (rest : List ℕ) (reader : ReaderState) → IsBytes behind → front_two_at sizes (length bytes) behind ≡ Ok (f, rest) → reader.awaited ≡ two_awaited sizes f → reader.kept ≡ [] → reader.given + length rest ≡ length bytes
-        → IsBegun sizes bytes (Some f.groups) reader rest
+        → IsListingBegun sizes bytes (Some f.groups) reader rest
     two_begun f rest reader fits e awaited kept given = record {
       parts = λ more. two_read_on sizes bytes more behind two f rest reader e awaited kept given;
       given = given;

@@ -4,7 +4,7 @@ use Rattle.std.proofs.lemmas.Bool.{lt-ltb}
 use Rattle.sight_names.specs.declared.faults.CertFault.{CertFault}
 use Rattle.sight_names.specs.declared.faults.CertFault.TheVariants as faults
 use Rattle.block_evidence.specs.declared.sight_tree.Node.{Node}
-use Rattle.cert_format.specs.Reading.{begins_at, Counts, triangle_at, ray_at, pair_at, node_at}
+use Rattle.cert_format.specs.Reading.{begins_at, RecordCounts, triangle_at, ray_at, pair_at, node_at}
 use Rattle.cert_format.proofs.FieldLaws.{ok_is}
 use Rattle.cert_format.proofs.CertGroups.MoreBytes.{place_stays}
 use Rattle.certificates.specs.declared.cert_parts.awaited.Awaited.{Awaited}
@@ -158,7 +158,7 @@ module _ (a : Awaited) where
   begun_first : (x : First) → a.begun ≡ true → IsSome x.0.0 × (x.0.1.begun ≡ a.begun) → IsFirst a x
   begun_first x h p = record { begun = p.1 ∙ h; part = λ _. p.0; header = λ g. absurd (let clash : true ≡ false = sym h ∙ g in cc) }
 
-  by_header : (r : Result (Counts × List ℕ) CertFault) (x : First) → a.begun ≡ false → as_first r (λ y. None) (λ y. all_awaited a.sizes y) ≡ Ok x → IsFirst a x
+  by_header : (r : Result (RecordCounts × List ℕ) CertFault) (x : First) → a.begun ≡ false → as_first r (λ y. None) (λ y. all_awaited a.sizes y) ≡ Ok x → IsFirst a x
   by_header (Ok y) x h e =
       let made : First = ((None, all_awaited a.sizes y.0), y.1) in
       subst (λ (z : First). IsFirst a z) {x = made} (ok_is made x e) (record { begun = refl; part = λ g. absurd (let clash : true ≡ false = sym g ∙ h in cc); header = λ _. refl })

@@ -8,10 +8,10 @@ use Rattle.block_evidence.specs.declared.sight_tree.Tree.{Tree}
 use Rattle.cert_format.specs.declared.cert.Sizes.{Sizes}
 use Rattle.cert_format.specs.declared.cert.Labelled.{Labelled}
 use Rattle.cert_format.specs.Parts.{CertParts}
-use Rattle.cert_format.specs.Reading.{◌>>=◌, begins_at, passed, Counts, front_at, counts_at, triangles_at, rays_at, pairs_at, trees_at, records_at, reading}
+use Rattle.cert_format.specs.Reading.{◌>>=◌, begins_at, passed, RecordCounts, front_at, counts_at, triangles_at, rays_at, pairs_at, trees_at, records_at, reading}
 use Rattle.certificates.specs.declared.cert_parts.part.Part.{Part}
 use Rattle.certificates.specs.declared.cert_parts.part.Part.TheVariants as parts
-use Rattle.certificates.specs.CertParts.Parts.{tree_parts, parts_of, reading_parts}
+use Rattle.certificates.specs.CertParts.Parts.{tree_parts, parts_of_listing, reading_parts}
 use Rattle.certificates.specs.CertParts.Left.{trees_left, nodes_left, pairs_left, rays_left, triangles_left, header_at, all_awaited, left_at, ReaderState, parts_left}
 use Rattle.certificates.specs.CertParts.Steps.{none_read}
 use Rattle.certificates.specs.declared.cert_parts.awaited.Awaited.{Awaited}
@@ -22,7 +22,7 @@ abbrev before : {X : Type 0} → (X → Part) → List X → Result (List Part) 
 before part xs left = left >>= λ others. Ok (map part xs ++ others)
 
 -- all records that these counts have, those of listed pairs with sectors of other sizes
-abbrev pub awaiting : Sizes → Sizes → Counts → Awaited
+abbrev pub awaiting : Sizes → Sizes → RecordCounts → Awaited
 awaiting sizes map_sizes k = record {
   sizes = sizes;
   map_sizes = map_sizes;
@@ -39,7 +39,7 @@ awaiting sizes map_sizes k = record {
 }
 
 -- what is made of records, seen as their parts
-module _ {C A : Type 0} (sizes map_sizes : Sizes) (n : ℕ) (k : Counts) (made : List Labelled → List PairRay → List Pair → List Tree → C) (parts_in : C → A) (view : List Part → A)
+module _ {C A : Type 0} (sizes map_sizes : Sizes) (n : ℕ) (k : RecordCounts) (made : List Labelled → List PairRay → List Pair → List Tree → C) (parts_in : C → A) (view : List Part → A)
     (agrees : (ts : List Labelled) (rs : List PairRay) (ps : List Pair) (ds : List Tree) → view (map (λ t. parts.Triangle t) ts ++ (map (λ r. parts.Ray r) rs ++ (map (λ p. parts.Listed p) ps ++ flat_map tree_parts ds))) ≡ parts_in (made ts rs ps ds)) where
   abbrev tell : Result C CertFault → Result A CertFault
   tell read = read >>= λ c. Ok (parts_in c)
@@ -90,21 +90,21 @@ module _ {C A : Type 0} (sizes map_sizes : Sizes) (n : ℕ) (k : Counts) (made :
 -- ---- in version 1
 
 abbrev told : Result CertParts CertFault → Result (List Part) CertFault
-told read = read >>= λ c. Ok (parts_of c)
+told read = read >>= λ c. Ok (parts_of_listing c)
 
 module _ (sizes : Sizes) (n : ℕ) where
   abbrev cert : List Labelled → List PairRay → List Pair → List Tree → CertParts
   cert ts rs ps ds = record { sizes = sizes; triangles = ts; rays = rs; listed = ps; trees = ds }
 
   -- what is read behind these counts
-  abbrev counted : Counts × List ℕ → Result CertParts CertFault
-  counted k = triangles_at sizes n None k.0.triangles k.1 >>= behind_triangles sizes sizes n k.0 cert (λ c. parts_of c) (λ ps. ps) (λ ts rs ps ds. refl)
+  abbrev counted : RecordCounts × List ℕ → Result CertParts CertFault
+  counted k = triangles_at sizes n None k.0.triangles k.1 >>= behind_triangles sizes sizes n k.0 cert (λ c. parts_of_listing c) (λ ps. ps) (λ ts rs ps ds. refl)
 
-  by_kinds : (k : Counts × List ℕ) → triangles_left (all_awaited sizes k.0) n k.1 ≡ told (counted k)
+  by_kinds : (k : RecordCounts × List ℕ) → triangles_left (all_awaited sizes k.0) n k.1 ≡ told (counted k)
   unfolding triangles_left
-  by_kinds k = sym (same_read (triangles_left (all_awaited sizes k.0) n k.1)) ∙ by_triangles sizes sizes n k.0 cert (λ c. parts_of c) (λ ps. ps) (λ ts rs ps ds. refl) (triangles_at sizes n None k.0.triangles k.1)
+  by_kinds k = sym (same_read (triangles_left (all_awaited sizes k.0) n k.1)) ∙ by_triangles sizes sizes n k.0 cert (λ c. parts_of_listing c) (λ ps. ps) (λ ts rs ps ds. refl) (triangles_at sizes n None k.0.triangles k.1)
 
-  by_counts : (r : Result (Counts × List ℕ) CertFault) → (r >>= λ k. triangles_left (all_awaited sizes k.0) n k.1) ≡ told (r >>= counted)
+  by_counts : (r : Result (RecordCounts × List ℕ) CertFault) → (r >>= λ k. triangles_left (all_awaited sizes k.0) n k.1) ≡ told (r >>= counted)
   by_counts (Ok k) = by_kinds k
   by_counts (Err f) = refl
 

@@ -5,7 +5,7 @@ use Rattle.sight_names.specs.Limits.{most_triangles}
 use Rattle.sight_names.specs.declared.faults.CertFault.{CertFault}
 use Rattle.sight_names.specs.declared.faults.CertFault.TheVariants as faults
 use Rattle.cert_format.specs.declared.cert.Sizes.{Sizes}
-use Rattle.cert_format.specs.Reading.{◌>>=◌, begins_at, passed, number_at, number_known, magic, magic_at, version_at, front_at, triangle_count_at, Counts, counts_at}
+use Rattle.cert_format.specs.Reading.{◌>>=◌, begins_at, passed, number_at, number_known, cert_magic, magic_at, version_at, front_at, triangle_count_at, RecordCounts, counts_at}
 use Rattle.certificates.specs.CertParts.Left.{header_at}
 use Rattle.certificates.proofs.CertParts.Whole.{longer, value, tested, IsWhole, whole_then, whole_value, whole_number, whole_field}
 
@@ -84,7 +84,7 @@ module _ (w : Width) (test : ℕ → Bool) (fault : ℕ → CertFault) where
 
 magic_known : IsKnown magic_at 4
 unfolding magic_at
-magic_known = known_field w32 (λ n. n == magic) (λ at. faults.BadMagic)
+magic_known = known_field w32 (λ n. n == cert_magic) (λ at. faults.BadMagic)
 
 version_known : IsKnown version_at 2
 unfolding version_at
@@ -117,9 +117,9 @@ module _ (sizes : Sizes) where
 -- ---- the counts
 
 abbrev Reader : Type 0
-Reader = ℕ → ℕ → List ℕ → Result (Counts × List ℕ) CertFault
+Reader = ℕ → ℕ → List ℕ → Result (RecordCounts × List ℕ) CertFault
 
-abbrev counts : ℕ → ℕ → ℕ → ℕ → Counts
+abbrev counts : ℕ → ℕ → ℕ → ℕ → RecordCounts
 counts triangles rays listed trees = record { triangles = triangles; rays = rays; listed = listed; trees = trees }
 
 abbrev with_three : ℕ → ℕ → ℕ → Reader

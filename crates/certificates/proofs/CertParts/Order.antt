@@ -7,7 +7,7 @@ use Rattle.sight_names.specs.declared.faults.CertFault.TheVariants as faults
 use Rattle.cert_format.specs.declared.cert.Sizes.{Sizes}
 use Rattle.block_evidence.specs.declared.sight_tree.Node.{Node}
 use Rattle.block_evidence.specs.declared.sight_tree.Tree.{Tree}
-use Rattle.cert_format.specs.Reading.{◌>>=◌, begins_at, passed, Counts, comes_after, number_at, number_below, triangle_at, ray_at, pair_at, node_at, nodes_at, tree_at, trees_at, records_at}
+use Rattle.cert_format.specs.Reading.{◌>>=◌, begins_at, passed, RecordCounts, comes_after, number_at, number_below, triangle_at, ray_at, pair_at, node_at, nodes_at, tree_at, trees_at, records_at}
 use Rattle.cert_format.proofs.FieldLaws.{bind_ok, ok_is}
 use Rattle.certificates.specs.declared.cert_parts.awaited.Awaited.{Awaited}
 use Rattle.certificates.specs.declared.cert_parts.part.Part.{Part}
@@ -181,7 +181,7 @@ step_tells (Ok x) part next after total h = ap (put_before (Some (part x.0))) (s
 step_tells (Err f) part next after total h = refl
 
 module _ (a : Awaited) (total : ℕ) (bytes : List ℕ) where
-  by_header : (r : Result (Counts × List ℕ) CertFault) → (r >>= λ x. triangles_left (all_awaited a.sizes x.0) total x.1) ≡ told total (as_first r (λ x. None) (λ x. all_awaited a.sizes x))
+  by_header : (r : Result (RecordCounts × List ℕ) CertFault) → (r >>= λ x. triangles_left (all_awaited a.sizes x.0) total x.1) ≡ told total (as_first r (λ x. None) (λ x. all_awaited a.sizes x))
   unfolding left_at
   by_header (Ok x) = refl
   by_header (Err f) = refl

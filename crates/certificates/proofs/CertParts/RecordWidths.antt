@@ -9,7 +9,7 @@ use Rattle.sight_names.specs.declared.names.Ray.{Ray}
 use Rattle.sight_names.specs.declared.names.Side.{Side}
 use Rattle.cert_format.specs.declared.cert.Sizes.{Sizes}
 use Rattle.cert_format.specs.declared.cert.Labelled.{Labelled}
-use Rattle.cert_format.specs.Reading.{◌>>=◌, passed, comes_after, pair_after, pair_of, triangle_after, number_at, signed_at, number_below, point_apart, side_at, triangle_at, sight_line_at, ray_at, pair_at}
+use Rattle.cert_format.specs.Reading.{◌>>=◌, passed, comes_after, pair_after, pair_if_any, triangle_after, number_at, signed_at, number_below, point_apart, side_at, triangle_at, sight_line_at, ray_at, pair_at}
 use Rattle.certificates.specs.CertParts.Steps.{head_at}
 use Rattle.certificates.proofs.CertParts.Whole.{value, tested, IsWhole, whole_then, whole_value, whole_test, from_here, whole_number, whole_field}
 
@@ -106,7 +106,7 @@ module _ (lines : ℕ) where
 module _ (sizes : Sizes) (before : Option PairRay) where
   abbrev with_pair : ℕ → ℕ → Reader PairRay
   with_pair a b start total bytes = sight_line_at sizes.lines total bytes >>= λ ray.
-      passed (ltb a b && pair_after (pair_of before) (record { a = a; b = b })) (faults.NotSorted start) (record { pair = record { a = a; b = b }; ray = ray.0 }, ray.1)
+      passed (ltb a b && pair_after (pair_if_any before) (record { a = a; b = b })) (faults.NotSorted start) (record { pair = record { a = a; b = b }; ray = ray.0 }, ray.1)
 
   abbrev with_from : ℕ → Reader PairRay
   with_from a start total bytes = number_below sizes.sectors total bytes >>= λ b. with_pair a b.0 start total b.1
@@ -117,7 +117,7 @@ module _ (sizes : Sizes) (before : Option PairRay) where
   pair_then : (a b : ℕ) → IsWhole (with_pair a b) 20
   pair_then a b =
       let made : Ray → PairRay = λ ray. record { pair = record { a = a; b = b }; ray = ray } in
-      let test : Bool = ltb a b && pair_after (pair_of before) (record { a = a; b = b }) in
+      let test : Bool = ltb a b && pair_after (pair_if_any before) (record { a = a; b = b }) in
       whole_then (λ start total bytes. sight_line_at sizes.lines total bytes) (λ ray start total bytes. tested test (faults.NotSorted start) (made ray) bytes) 20 0
       (line_whole sizes.lines) (λ ray. whole_test test (λ at. faults.NotSorted at) (made ray))
 

@@ -19,7 +19,7 @@ use Rattle.certificates.specs.CertParts.Steps.{first_width}
 use Rattle.certificates.specs.declared.exact_parts.awaited.Awaited.{Awaited}
 use Rattle.certificates.specs.declared.exact_parts.part.Part.{Part}
 use Rattle.certificates.specs.declared.exact_parts.part.Part.TheVariants as parts
-use Rattle.certificates.specs.ExactParts.Left.{TreesLeft, first_of, put_length, settled, shorter, less_first, IsSettled, trees_left, lengths_left, rays_left, left_at, put_before}
+use Rattle.certificates.specs.ExactParts.Left.{TreesLeft, first_or_zero, put_length, settled, shorter, less_first, IsFirstTreeLeft, trees_left, lengths_left, rays_left, left_at, put_before}
 use Rattle.certificates.specs.ExactParts.Steps.{is_done, StepOf, as_step, triangle_step, ray_step, Ahead, length_step, node_step, before_trees, in_trees, first_at, room_for, width_at}
 use Rattle.certificates.proofs.ExactParts.Settling.{settles, settled_is, none_first as none_settled}
 use Rattle.certificates.proofs.ExactParts.OneNode.{some_wide, node_tells, cut_told}
@@ -98,11 +98,11 @@ module _ (a : Awaited) (t : TreesLeft) (total : ℕ) (bytes : List ℕ) where
   unfolding first_at length_step
   is_length z y some = rw (z, y, lt-ltb _ _ some) refl
 
-  is_node : a.triangles ≡ 0 → a.rays ≡ 0 → a.lengths ≡ 0 → 0 < first_of t.lengths → first_at a t total bytes ≡ in_trees a (node_step t total bytes)
+  is_node : a.triangles ≡ 0 → a.rays ≡ 0 → a.lengths ≡ 0 → 0 < first_or_zero t.lengths → first_at a t total bytes ≡ in_trees a (node_step t total bytes)
   unfolding first_at
   is_node z y x some = rw (z, y, x, lt-ltb _ _ some) refl
 
-  is_trailing : a.triangles ≡ 0 → a.rays ≡ 0 → a.lengths ≡ 0 → first_of t.lengths ≡ 0 → first_at a t total bytes ≡ Err (faults.Trailing (begins_at total bytes))
+  is_trailing : a.triangles ≡ 0 → a.rays ≡ 0 → a.lengths ≡ 0 → first_or_zero t.lengths ≡ 0 → first_at a t total bytes ≡ Err (faults.Trailing (begins_at total bytes))
   unfolding first_at
   is_trailing z y x w = rw (z, y, x, w) refl
 
@@ -119,7 +119,7 @@ module _ (a : Awaited) (t : TreesLeft) (bytes : List ℕ) where
   unfolding width_at
   length_wide z y some = rw (z, y, lt-ltb _ _ some) refl
 
-  node_wide : a.triangles ≡ 0 → a.rays ≡ 0 → a.lengths ≡ 0 → width_at a t bytes ≡ room_for (first_width bytes) (first_of t.lengths)
+  node_wide : a.triangles ≡ 0 → a.rays ≡ 0 → a.lengths ≡ 0 → width_at a t bytes ≡ room_for (first_width bytes) (first_or_zero t.lengths)
   unfolding width_at
   node_wide z y x = rw (z, y, x) refl
 
@@ -128,8 +128,8 @@ module _ (a : Awaited) (t : TreesLeft) (bytes : List ℕ) where
 -- of the kinds of records, in their order: what holds in each
 abbrev ByKind : Awaited → TreesLeft → Type 0 → Type 0
 ByKind a t P =
-    (0 < a.triangles → P) → (a.triangles ≡ 0 → 0 < a.rays → P) → (a.triangles ≡ 0 → a.rays ≡ 0 → 0 < a.lengths → P) → (a.triangles ≡ 0 → a.rays ≡ 0 → a.lengths ≡ 0 → 0 < first_of t.lengths → P)
-    → (a.triangles ≡ 0 → a.rays ≡ 0 → a.lengths ≡ 0 → first_of t.lengths ≡ 0 → P) → P
+    (0 < a.triangles → P) → (a.triangles ≡ 0 → 0 < a.rays → P) → (a.triangles ≡ 0 → a.rays ≡ 0 → 0 < a.lengths → P) → (a.triangles ≡ 0 → a.rays ≡ 0 → a.lengths ≡ 0 → 0 < first_or_zero t.lengths → P)
+    → (a.triangles ≡ 0 → a.rays ≡ 0 → a.lengths ≡ 0 → first_or_zero t.lengths ≡ 0 → P) → P
 
 by_kind : (a : Awaited) (t : TreesLeft) {P : Type 0} → ByKind a t P
 by_kind a t {P} triangle ray len node none = elim (cases_lt 0 a.triangles) [
@@ -138,7 +138,7 @@ by_kind a t {P} triangle ray len node none = elim (cases_lt 0 a.triangles) [
 ]
   where
     behind_lengths : a.triangles ≡ 0 → a.rays ≡ 0 → a.lengths ≡ 0 → P
-    behind_lengths z y x = elim (cases_lt 0 (first_of t.lengths)) [
+    behind_lengths z y x = elim (cases_lt 0 (first_or_zero t.lengths)) [
       | inl lt ↦ node z y x lt
       | inr le ↦ none z y x (omega (arith, le))
     ]
@@ -226,10 +226,10 @@ module _ (a : Awaited) (t : TreesLeft) (total : ℕ) (whole more : List ℕ) whe
   in_trees_tells z y x (Ok s) = ap (put_before (Some s.0.0)) (sym (at_trees a s.0.1 all (s.1 ++ more) z y x))
   in_trees_tells z y x (Err f) = refl
 
-  some_tree : (lengths : List ℕ) → t.lengths ≡ lengths → 0 < first_of lengths → a.triangles ≡ 0 → a.rays ≡ 0 → a.lengths ≡ 0 → width_at a t whole ≡ length whole → left_at a t all (whole ++ more) ≡ told all (longer more (in_trees a (node_step t total whole)))
+  some_tree : (lengths : List ℕ) → t.lengths ≡ lengths → 0 < first_or_zero lengths → a.triangles ≡ 0 → a.rays ≡ 0 → a.lengths ≡ 0 → width_at a t whole ≡ length whole → left_at a t all (whole ++ more) ≡ told all (longer more (in_trees a (node_step t total whole)))
   some_tree [] e some z y x wide = absurd (omega (arith, some))
   some_tree (n ∷ lengths) e some z y x wide =
-      let room : room_for (first_width whole) n ≡ length whole = sym (ap (λ (ls : List ℕ). room_for (first_width whole) (first_of ls)) e) ∙ sym (node_wide a t whole z y x) ∙ wide in
+      let room : room_for (first_width whole) n ≡ length whole = sym (ap (λ (ls : List ℕ). room_for (first_width whole) (first_or_zero ls)) e) ∙ sym (node_wide a t whole z y x) ∙ wide in
       let here : TreesLeft = record { source = t.source; lengths = n ∷ lengths } in
       let same : here ≡ t = ap (λ (ls : List ℕ). let s : TreesLeft = record { source = t.source; lengths = ls } in s) (sym e) in
       at_trees a t all (whole ++ more) z y x
@@ -238,10 +238,10 @@ module _ (a : Awaited) (t : TreesLeft) (total : ℕ) (whole more : List ℕ) whe
       ∙ in_trees_tells z y x (node_step here total whole)
       ∙ ap (λ (s : TreesLeft). told all (longer more (in_trees a (node_step s total whole)))) same
 
-  node_there : a.triangles ≡ 0 → a.rays ≡ 0 → a.lengths ≡ 0 → 0 < first_of t.lengths → width_at a t whole ≡ length whole → Tells
+  node_there : a.triangles ≡ 0 → a.rays ≡ 0 → a.lengths ≡ 0 → 0 < first_or_zero t.lengths → width_at a t whole ≡ length whole → Tells
   node_there z y x some wide = some_tree t.lengths refl some z y x wide ∙ ap (λ (s : StepOf Ahead). told all (longer more s)) (sym (is_node a t total whole z y x some))
 
-  byte_there : a.triangles ≡ 0 → a.rays ≡ 0 → a.lengths ≡ 0 → first_of t.lengths ≡ 0 → IsSettled t.lengths → 0 < length whole → Tells
+  byte_there : a.triangles ≡ 0 → a.rays ≡ 0 → a.lengths ≡ 0 → first_or_zero t.lengths ≡ 0 → IsFirstTreeLeft t.lengths → 0 < length whole → Tells
   unfolding trees_left trees_at
   byte_there z y x w is some =
       let none : t.lengths ≡ [] = none_settled t.lengths is w in
@@ -249,7 +249,7 @@ module _ (a : Awaited) (t : TreesLeft) (total : ℕ) (whole more : List ℕ) whe
       at_trees a t all (whole ++ more) z y x ∙ rw (none, left, place_stays total whole more) refl ∙ ap (λ (s : StepOf Ahead). told all (longer more s)) (sym (is_trailing a t total whole z y x w))
 
   -- whatever it is
-  pub first_tells : IsSettled t.lengths → width_at a t whole ≡ length whole → 0 < length whole → Tells
+  pub first_tells : IsFirstTreeLeft t.lengths → width_at a t whole ≡ length whole → 0 < length whole → Tells
   first_tells is wide some =
       by_kind a t
       (λ lt. triangle_there lt (omega (arith, wide, triangle_wide a t whole lt)))
@@ -274,8 +274,8 @@ module _ (a : Awaited) (t : TreesLeft) where
       (λ lt. omega (arith, triangle_wide a t bytes lt))
       (λ z lt. omega (arith, ray_wide a t bytes z lt))
       (λ z y lt. omega (arith, length_wide a t bytes z y lt))
-      (λ z y x lt. subst (λ (n : ℕ). 0 < n) (sym (node_wide a t bytes z y x)) ((room_within (first_width bytes) (first_of t.lengths)).2 (some_wide bytes)))
-      (λ z y x w. subst (λ (n : ℕ). 0 < n) (sym (node_wide a t bytes z y x)) ((room_within (first_width bytes) (first_of t.lengths)).2 (some_wide bytes)))
+      (λ z y x lt. subst (λ (n : ℕ). 0 < n) (sym (node_wide a t bytes z y x)) ((room_within (first_width bytes) (first_or_zero t.lengths)).2 (some_wide bytes)))
+      (λ z y x w. subst (λ (n : ℕ). 0 < n) (sym (node_wide a t bytes z y x)) ((room_within (first_width bytes) (first_or_zero t.lengths)).2 (some_wide bytes)))
 
   -- the first byte says it
   pub width_stays : (bytes more : List ℕ) → 0 < length bytes → width_at a t (bytes ++ more) ≡ width_at a t bytes
@@ -305,12 +305,12 @@ module _ (a : Awaited) (t : TreesLeft) where
       (λ lt. omega (arith, triangle_wide a t bytes lt, step_takes (triangle_at a.sizes total a.last_triangle bytes) (λ y. parts.Triangle y) (λ y. (fewer_triangles a y, t)) 8 (length bytes) x ((triangle_whole a.sizes a.last_triangle).takes 0 total bytes) (sym (is_triangle a t total bytes lt) ∙ e)))
       (λ z lt. omega (arith, ray_wide a t bytes z lt, step_takes (ray_at a.sizes total a.last_ray bytes) (λ y. parts.Ray y) (λ y. (fewer_rays a y, t)) 24 (length bytes) x ((ray_whole a.sizes a.last_ray).takes 0 total bytes) (sym (is_ray a t total bytes z lt) ∙ e)))
       (λ z y lt. omega (arith, length_wide a t bytes z y lt, step_takes (number_at w64 total bytes) (λ n. parts.Length) (λ n. (fewer_lengths a, settled (put_length n t))) 8 (length bytes) x ((whole_number w64).takes 0 total bytes) (sym (is_length a t total bytes z y lt) ∙ e)))
-      (λ z y w lt. omega (arith, node_wide a t bytes z y w, (room_within (first_width bytes) (first_of t.lengths)).1 lt, node_takes_all total bytes x (sym (is_node a t total bytes z y w lt) ∙ e)))
+      (λ z y w lt. omega (arith, node_wide a t bytes z y w, (room_within (first_width bytes) (first_or_zero t.lengths)).1 lt, node_takes_all total bytes x (sym (is_node a t total bytes z y w lt) ∙ e)))
       (λ z y w v. absurd (let clash = sym (is_trailing a t total bytes z y w v) ∙ e in cc))
 
 -- ---- something is left of the first tree behind each step
 
-pub first_settles : (a : Awaited) (t : TreesLeft) (total : ℕ) (bytes : List ℕ) (x : (Part × Ahead) × List ℕ) → IsSettled t.lengths → first_at a t total bytes ≡ Ok x → IsSettled x.0.1.1.lengths
+pub first_settles : (a : Awaited) (t : TreesLeft) (total : ℕ) (bytes : List ℕ) (x : (Part × Ahead) × List ℕ) → IsFirstTreeLeft t.lengths → first_at a t total bytes ≡ Ok x → IsFirstTreeLeft x.0.1.1.lengths
 unfolding node_step
 first_settles a t total bytes x is e =
     by_kind a t
@@ -320,25 +320,25 @@ first_settles a t total bytes x is e =
     (λ z y w lt. of_node' (sym (is_node a t total bytes z y w lt) ∙ e))
     (λ z y w v. absurd (let clash = sym (is_trailing a t total bytes z y w v) ∙ e in cc))
   where
-    stays : {X : Type 0} (r : Result (X × List ℕ) CertFault) (part : X → Part) (next : X → Awaited) → as_step r part (λ y. (next y, t)) ≡ Ok x → IsSettled x.0.1.1.lengths
+    stays : {X : Type 0} (r : Result (X × List ℕ) CertFault) (part : X → Part) (next : X → Awaited) → as_step r part (λ y. (next y, t)) ≡ Ok x → IsFirstTreeLeft x.0.1.1.lengths
     stays (Ok y) part next h =
         let made : (Part × Ahead) × List ℕ = ((part y.0, (next y.0, t)), y.1) in
-        subst (λ (z : (Part × Ahead) × List ℕ). IsSettled z.0.1.1.lengths) {x = made} (ok_is made x h) is
+        subst (λ (z : (Part × Ahead) × List ℕ). IsFirstTreeLeft z.0.1.1.lengths) {x = made} (ok_is made x h) is
     stays (Err f) part next h = absurd cc
 
-    of_length : (r : Result (ℕ × List ℕ) CertFault) → as_step r (λ n. parts.Length) (λ n. (fewer_lengths a, settled (put_length n t))) ≡ Ok x → IsSettled x.0.1.1.lengths
+    of_length : (r : Result (ℕ × List ℕ) CertFault) → as_step r (λ n. parts.Length) (λ n. (fewer_lengths a, settled (put_length n t))) ≡ Ok x → IsFirstTreeLeft x.0.1.1.lengths
     of_length (Ok y) h =
         let made : (Part × Ahead) × List ℕ = ((parts.Length, (fewer_lengths a, settled (put_length y.0 t))), y.1) in
-        subst (λ (z : (Part × Ahead) × List ℕ). IsSettled z.0.1.1.lengths) {x = made} (ok_is made x h) (settled_is t.source (t.lengths ++ y.0 ∷ []))
+        subst (λ (z : (Part × Ahead) × List ℕ). IsFirstTreeLeft z.0.1.1.lengths) {x = made} (ok_is made x h) (settled_is t.source (t.lengths ++ y.0 ∷ []))
     of_length (Err f) h = absurd cc
 
-    of_read : (r : Result (Node × List ℕ) CertFault) → in_trees a (r >>= λ y. Ok ((parts.Node t.source y.0, settled (shorter (length bytes - length y.1) t)), y.1)) ≡ Ok x → IsSettled x.0.1.1.lengths
+    of_read : (r : Result (Node × List ℕ) CertFault) → in_trees a (r >>= λ y. Ok ((parts.Node t.source y.0, settled (shorter (length bytes - length y.1) t)), y.1)) ≡ Ok x → IsFirstTreeLeft x.0.1.1.lengths
     of_read (Ok y) h =
         let made : (Part × Ahead) × List ℕ = ((parts.Node t.source y.0, (a, settled (shorter (length bytes - length y.1) t))), y.1) in
-        subst (λ (z : (Part × Ahead) × List ℕ). IsSettled z.0.1.1.lengths) {x = made} (ok_is made x h) (settled_is t.source (less_first (length bytes - length y.1) t.lengths))
+        subst (λ (z : (Part × Ahead) × List ℕ). IsFirstTreeLeft z.0.1.1.lengths) {x = made} (ok_is made x h) (settled_is t.source (less_first (length bytes - length y.1) t.lengths))
     of_read (Err f) h = absurd cc
 
-    of_node' : in_trees a (node_step t total bytes) ≡ Ok x → IsSettled x.0.1.1.lengths
+    of_node' : in_trees a (node_step t total bytes) ≡ Ok x → IsFirstTreeLeft x.0.1.1.lengths
     of_node' h = of_read (node_at total bytes) h
 
 -- ---- at the end of all bytes
@@ -348,12 +348,12 @@ module _ (a : Awaited) (t : TreesLeft) (total : ℕ) (kept : List ℕ) where
   node_fault (Ok y) f next e = absurd cc
   node_fault (Err g) f next e = cc
 
-  node_cut : (f : CertFault) (lengths : List ℕ) → t.lengths ≡ lengths → 0 < first_of lengths → length kept < first_of lengths → in_trees a (node_step t total kept) ≡ Err f → trees_left t.source lengths total kept ≡ Err f
+  node_cut : (f : CertFault) (lengths : List ℕ) → t.lengths ≡ lengths → 0 < first_or_zero lengths → length kept < first_or_zero lengths → in_trees a (node_step t total kept) ≡ Err f → trees_left t.source lengths total kept ≡ Err f
   unfolding node_step
   node_cut f [] same some lt e = absurd (omega (arith, some))
   node_cut f (n ∷ lengths) same some lt e = cut_told t.source n lengths total kept f some lt (node_fault (node_at total kept) f (λ y. ((parts.Node t.source y.0, settled (shorter (length kept - length y.1) t)), y.1)) e)
 
-  all_zero : a.triangles ≡ 0 → a.rays ≡ 0 → a.lengths ≡ 0 → first_of t.lengths ≡ 0 → is_done a t ≡ true
+  all_zero : a.triangles ≡ 0 → a.rays ≡ 0 → a.lengths ≡ 0 → first_or_zero t.lengths ≡ 0 → is_done a t ≡ true
   all_zero z y x w = rw (z, y, x, w) refl
 
   pub end_fault : (f : CertFault) → (is_done a t ≡ false) ⊎ (0 < length kept) → length kept < width_at a t kept → first_at a t total kept ≡ Err f → left_at a t total kept ≡ Err f
@@ -362,13 +362,13 @@ module _ (a : Awaited) (t : TreesLeft) (total : ℕ) (kept : List ℕ) where
       (λ lt. triangle_tells a t total kept lt ∙ rw e refl)
       (λ z lt. ray_tells a t total kept z lt ∙ rw e refl)
       (λ z y lt. length_tells a t total kept z y lt ∙ rw e refl)
-      (λ z y x lt. at_trees a t total kept z y x ∙ node_cut f t.lengths refl lt (omega (arith, cut, node_wide a t kept z y x, (room_within (first_width kept) (first_of t.lengths)).0 lt)) (sym (is_node a t total kept z y x lt) ∙ e))
+      (λ z y x lt. at_trees a t total kept z y x ∙ node_cut f t.lengths refl lt (omega (arith, cut, node_wide a t kept z y x, (room_within (first_width kept) (first_or_zero t.lengths)).0 lt)) (sym (is_node a t total kept z y x lt) ∙ e))
       (λ z y x w. absurd (elim owed [
         | inl open_ ↦ let clash : true ≡ false = sym (all_zero z y x w) ∙ open_ in cc
         | inr some ↦ let one : width_at a t kept ≡ 1 = node_wide a t kept z y x ∙ ap (room_for (first_width kept)) w in omega (arith, one, some, cut)
       ]))
 
-  pub done_left : is_done a t ≡ true → IsSettled t.lengths → length kept ≡ 0 → left_at a t total kept ≡ Ok []
+  pub done_left : is_done a t ≡ true → IsFirstTreeLeft t.lengths → length kept ≡ 0 → left_at a t total kept ≡ Ok []
   unfolding trees_left trees_at
   done_left h is none =
       let p3 = and_parts _ _ h in

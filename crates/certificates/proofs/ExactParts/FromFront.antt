@@ -7,7 +7,7 @@ use Rattle.sight_names.specs.declared.names.PairRay.{PairRay}
 use Rattle.block_evidence.specs.declared.sight_tree.Node.{Node}
 use Rattle.cert_format.specs.declared.cert.Sizes.{Sizes}
 use Rattle.cert_format.specs.declared.cert.Labelled.{Labelled}
-use Rattle.cert_format.specs.Reading.{◌>>=◌, Fails, begins_at, passed, triangles_at, rays_at}
+use Rattle.cert_format.specs.Reading.{◌>>=◌, FailsCert, begins_at, passed, triangles_at, rays_at}
 use Rattle.cert_format.proofs.FieldLaws.{IsBytes, bind_ok, ok_is, Takes}
 use Rattle.cert_format.proofs.Loop.{fails}
 use Rattle.cert_format.proofs.RecordLaws.{records_take}
@@ -27,7 +27,7 @@ use Rattle.certificates.specs.ExactParts.Parts.{tree_parts, ThreeParts, three_pa
 use Rattle.certificates.specs.ExactParts.Left.{TreesLeft, trees_left, lengths_left, rays_left, left_at, ReaderState, parts_left}
 use Rattle.certificates.specs.ExactParts.Steps.{all_awaited}
 use Rattle.certificates.specs.ExactParts.Front.{front_at}
-use Rattle.certificates.specs.ExactParts.Beginning.{parts_from, IsBegun}
+use Rattle.certificates.specs.ExactParts.Beginning.{parts_from, IsExactBegun}
 use Rattle.certificates.specs.CertParts.Beginning.{cut_at}
 use Rattle.certificates.proofs.CertParts.EitherVersion.{cut_is}
 use Rattle.certificates.proofs.ExactParts.MoreBytes.{front_stays}
@@ -166,9 +166,9 @@ module _ (sizes : Sizes) (bytes more : List ℕ) where
       ∙ sym (left_behind sizes n f (rest ++ more))
       ∙ rw (is, counted) refl
 
-  pub fault_again : (f g : CertFault) → Err g ≡ cut_at f → Fails f (front_at sizes (length bytes) bytes) → Fails g (reading_three_parts sizes (bytes ++ more))
+  pub fault_again : (f g : CertFault) → Err g ≡ cut_at f → FailsCert f (front_at sizes (length bytes) bytes) → FailsCert g (reading_three_parts sizes (bytes ++ more))
   fault_again (faults.Short at) g cut h = absurd cc
-  fault_again (faults.Memory u) g cut h = let same : faults.Memory u ≡ g = cc in subst (λ (k : CertFault). Fails k (reading_three_parts sizes (bytes ++ more))) same tt
+  fault_again (faults.Memory u) g cut h = let same : faults.Memory u ≡ g = cc in subst (λ (k : CertFault). FailsCert k (reading_three_parts sizes (bytes ++ more))) same tt
   fault_again f g cut h =
       let same : f ≡ g = cc in
       let again = still_faulty (front_at sizes (length bytes) bytes) (front_at sizes (length (bytes ++ more)) (bytes ++ more)) f front_again h in
@@ -177,8 +177,8 @@ module _ (sizes : Sizes) (bytes more : List ℕ) where
 front_cut : (sizes : Sizes) (bytes : List ℕ) (at : ℕ) → front_at sizes (length bytes) bytes ≡ Err (faults.Short at) → reading_three_parts sizes bytes ≡ Err (faults.Short at)
 front_cut sizes bytes at e = unread sizes bytes (faults.Short at) (no_front sizes (length bytes) bytes (faults.Short at) e)
 
-pub cut_told : (sizes : Sizes) (bytes : List ℕ) (f : CertFault) (at : ℕ) → Fails f (front_at sizes (length bytes) bytes) → Ok at ≡ cut_at f → reading_three_parts sizes bytes ≡ Err (faults.Short at)
-cut_told sizes bytes f at h cut = front_cut sizes bytes at (subst (λ (g : CertFault). Fails g (front_at sizes (length bytes) bytes)) (cut_is f at cut) h)
+pub cut_told : (sizes : Sizes) (bytes : List ℕ) (f : CertFault) (at : ℕ) → FailsCert f (front_at sizes (length bytes) bytes) → Ok at ≡ cut_at f → reading_three_parts sizes bytes ≡ Err (faults.Short at)
+cut_told sizes bytes f at h cut = front_cut sizes bytes at (subst (λ (g : CertFault). FailsCert g (front_at sizes (length bytes) bytes)) (cut_is f at cut) h)
 
 pub rest_within : (sizes : Sizes) (bytes : List ℕ) (x : FrontThree × List ℕ) → IsBytes bytes → front_at sizes (length bytes) bytes ≡ Ok x → length x.1 ≤ length bytes
 unfolding front_at
@@ -203,5 +203,5 @@ rest_within sizes bytes x fits e =
     shorter bytes text rest t = omega (arith, ap length t.parts, length-append text rest)
 
 pub begun : (sizes : Sizes) (bytes : List ℕ) (f : FrontThree) (rest : List ℕ) (reader : ReaderState) (given : ℕ) → front_at sizes (length bytes) bytes ≡ Ok (f, rest) → reader ≡ record { awaited = all_awaited f; trees = no_trees; given = given; kept = [] } → given + length rest ≡ length bytes
-    → IsBegun sizes bytes f.groups reader rest
+    → IsExactBegun sizes bytes f.groups reader rest
 begun sizes bytes f rest reader given e is count = record { parts = λ more. read_on sizes bytes more f rest reader given e is count; given = omega (arith, ap (λ (s : ReaderState). s.given) is, count) }

@@ -8,7 +8,7 @@ use Rattle.cert_format.specs.Reading.{◌>>=◌, begins_at, passed}
 use Rattle.certificates.specs.CertExact.Reading.{nodes_to_end, tree_at, trees_at}
 use Rattle.certificates.specs.declared.exact_parts.part.Part.{Part}
 use Rattle.certificates.specs.ExactParts.Parts.{tree_parts}
-use Rattle.certificates.specs.ExactParts.Left.{first_of, settled_from, IsSettled, trees_left}
+use Rattle.certificates.specs.ExactParts.Left.{first_or_zero, settled_from, IsFirstTreeLeft, trees_left}
 
 abbrev Trees : Type 0
 Trees = Result (List (List Node) × List ℕ) CertFault
@@ -35,12 +35,12 @@ module _ (total : ℕ) where
   settles f (zero ∷ lengths) more bytes = empty_first f (lengths ++ more) bytes ∙ settles (suc f) lengths more bytes
   settles f (suc n ∷ lengths) more bytes = refl
 
-pub settled_is : (f : ℕ) (lengths : List ℕ) → IsSettled (settled_from f lengths).lengths
+pub settled_is : (f : ℕ) (lengths : List ℕ) → IsFirstTreeLeft (settled_from f lengths).lengths
 settled_is f [] = tt
 settled_is f (zero ∷ lengths) = settled_is (suc f) lengths
 settled_is f (suc n ∷ lengths) = omega arith
 
 -- with nothing left of the first, none is left
-pub none_first : (lengths : List ℕ) → IsSettled lengths → first_of lengths ≡ 0 → lengths ≡ []
+pub none_first : (lengths : List ℕ) → IsFirstTreeLeft lengths → first_or_zero lengths ≡ 0 → lengths ≡ []
 none_first [] is none = refl
 none_first (n ∷ lengths) is none = absurd (omega (arith, is, none))

@@ -4,12 +4,12 @@ use Rattle.std.proofs.Common.{◌≡◌, ℕ, ◌+◌, ◌-◌, ◌<◌, ◌≤�
 use Rattle.std.proofs.lemmas.List.{append-nil, take-append-drop, length-append, length-take, nil_from_length}
 use Rattle.sight_names.specs.declared.faults.CertFault.{CertFault}
 use Rattle.sight_names.specs.declared.faults.CertFault.TheVariants as faults
-use Rattle.cert_format.specs.Reading.{Fails, Gives}
+use Rattle.cert_format.specs.Reading.{FailsCert, GivesCert}
 use Rattle.cert_format.proofs.FieldLaws.{bind_ok, ok_is}
 use Rattle.cert_format.proofs.Loop.{fails}
 use Rattle.certificates.proofs.CertParts.Whole.{longer}
 use Rattle.certificates.specs.declared.exact_parts.part.Part.{Part}
-use Rattle.certificates.specs.ExactParts.Left.{TreesLeft, ReaderState, IsSettled, parts_left, put_before}
+use Rattle.certificates.specs.ExactParts.Left.{TreesLeft, ReaderState, IsFirstTreeLeft, parts_left, put_before}
 use Rattle.certificates.specs.ExactParts.Steps.{is_done, Ahead, first_at, width_at, without_rest}
 use Rattle.certificates.proofs.ExactParts.First.{told, first_tells, first_takes, first_settles, some_width, width_stays, still_cut, end_fault, done_left}
 
@@ -22,7 +22,7 @@ kept_tells s new piece more p t q r =
 
 -- ---- a record whose rest is there
 
-module _ (s : ReaderState) (front : List ℕ) (settled : IsSettled s.trees.lengths) (wide : width_at s.awaited s.trees (s.kept ++ front) ≡ length (s.kept ++ front)) where
+module _ (s : ReaderState) (front : List ℕ) (settled : IsFirstTreeLeft s.trees.lengths) (wide : width_at s.awaited s.trees (s.kept ++ front) ≡ length (s.kept ++ front)) where
   abbrev whole : List ℕ
   whole = s.kept ++ front
 
@@ -52,9 +52,9 @@ module _ (s : ReaderState) (front : List ℕ) (settled : IsSettled s.trees.lengt
 -- ---- what a call takes of it
 
 -- the answer to the first record, without the bytes behind it
-module _ (s new : ReaderState) (front : List ℕ) (total : ℕ) (settled : IsSettled s.trees.lengths) where
+module _ (s new : ReaderState) (front : List ℕ) (total : ℕ) (settled : IsFirstTreeLeft s.trees.lengths) where
   abbrev Answer : Result Part CertFault → Type 0
-  Answer r = Gives (λ part. (part, (new.awaited, new.trees))) r (without_rest (first_at s.awaited s.trees total (s.kept ++ front)))
+  Answer r = GivesCert (λ part. (part, (new.awaited, new.trees))) r (without_rest (first_at s.awaited s.trees total (s.kept ++ front)))
 
   abbrev Made : Type 0
   Made = Part × Ahead
@@ -71,11 +71,11 @@ module _ (s new : ReaderState) (front : List ℕ) (total : ℕ) (settled : IsSet
   read_of : (part : Part) → Answer (Ok part) → IsRead part
   read_of part g = let x = bind_ok (first_at s.awaited s.trees total (s.kept ++ front)) (λ x. Ok x.0) (made part) g in record { x = x.0; read = x.1; same = ok_is x.0.0 (made part) x.2 }
 
-  pub still_settled : (r : Result Part CertFault) → Answer r → OnErr r ((new.awaited ≡ s.awaited) × (new.trees ≡ s.trees)) → IsSettled new.trees.lengths
+  pub still_settled : (r : Result Part CertFault) → Answer r → OnErr r ((new.awaited ≡ s.awaited) × (new.trees ≡ s.trees)) → IsFirstTreeLeft new.trees.lengths
   still_settled (Ok part) g kept =
       let x = read_of part g in
-      subst (λ (y : Made). IsSettled y.1.1.lengths) x.same (first_settles s.awaited s.trees total (s.kept ++ front) x.x settled x.read)
-  still_settled (Err f) g kept = subst (λ (t : TreesLeft). IsSettled t.lengths) (sym kept.1) settled
+      subst (λ (y : Made). IsFirstTreeLeft y.1.1.lengths) x.same (first_settles s.awaited s.trees total (s.kept ++ front) x.x settled x.read)
+  still_settled (Err f) g kept = subst (λ (t : TreesLeft). IsFirstTreeLeft t.lengths) (sym kept.1) settled
 
   module _ (at : total ≡ s.given + length front) (wide : width_at s.awaited s.trees (s.kept ++ front) ≡ length (s.kept ++ front)) where
     pub taken_told : (r : Result Part CertFault) → Answer r → new.given ≡ s.given + length front → new.kept ≡ [] → IfOk r (λ part. (more : List ℕ) → parts_left s (front ++ more) ≡ put_before (Some part) (parts_left new more))
@@ -88,11 +88,11 @@ module _ (s new : ReaderState) (front : List ℕ) (total : ℕ) (settled : IsSet
     not_taken f (Ok x) e = absurd cc
     not_taken f (Err g) e = cc
 
-    by_fault : (f : CertFault) (more : List ℕ) → Fails f (without_rest (first_at s.awaited s.trees total (s.kept ++ front))) → Fails f (parts_left s (front ++ more))
+    by_fault : (f : CertFault) (more : List ℕ) → FailsCert f (without_rest (first_at s.awaited s.trees total (s.kept ++ front))) → FailsCert f (parts_left s (front ++ more))
     by_fault (faults.Memory _) more h = tt
     by_fault f more h = fails f (parts_left s (front ++ more)) (fault_told s front settled wide more f (subst (λ (n : ℕ). first_at s.awaited s.trees n (s.kept ++ front) ≡ Err f) at (not_taken f (first_at s.awaited s.trees total (s.kept ++ front)) h)))
 
-    pub taken_fault : (r : Result Part CertFault) → Answer r → IfErr r (λ f. (more : List ℕ) → Fails f (parts_left s (front ++ more)))
+    pub taken_fault : (r : Result Part CertFault) → Answer r → IfErr r (λ f. (more : List ℕ) → FailsCert f (parts_left s (front ++ more)))
     taken_fault (Ok part) g = tt
     taken_fault (Err f) g = λ more. by_fault f more g
 
@@ -116,13 +116,13 @@ end_told s f owed cut e =
     let n : s.given + 0 ≡ s.given = omega arith in
     rw (n, append-nil s.kept) (end_fault s.awaited s.trees s.given s.kept f owed cut e)
 
-pub done_told : (s : ReaderState) → is_done s.awaited s.trees ≡ true → IsSettled s.trees.lengths → length s.kept ≡ 0 → parts_left s [] ≡ Ok []
+pub done_told : (s : ReaderState) → is_done s.awaited s.trees ≡ true → IsFirstTreeLeft s.trees.lengths → length s.kept ≡ 0 → parts_left s [] ≡ Ok []
 unfolding parts_left
 done_told s h is none =
     let n : s.given + 0 ≡ s.given = omega arith in
     rw (n, append-nil s.kept) (done_left s.awaited s.trees s.given s.kept h is none)
 
-pub end_fails : (s : ReaderState) (f : CertFault) → (is_done s.awaited s.trees ≡ false) ⊎ (0 < length s.kept) → length s.kept < width_at s.awaited s.trees s.kept → Fails f (first_at s.awaited s.trees s.given s.kept) → Fails f (parts_left s [])
+pub end_fails : (s : ReaderState) (f : CertFault) → (is_done s.awaited s.trees ≡ false) ⊎ (0 < length s.kept) → length s.kept < width_at s.awaited s.trees s.kept → FailsCert f (first_at s.awaited s.trees s.given s.kept) → FailsCert f (parts_left s [])
 end_fails s (faults.Memory _) owed cut h = tt
 end_fails s f owed cut h = fails f (parts_left s []) (end_told s f owed cut h)
 

@@ -16,7 +16,7 @@ use Rattle.certificates.proofs.CertParts.Stretches.{reads_within}
 use Rattle.certificates.specs.declared.exact_parts.part.Part.{Part}
 use Rattle.certificates.specs.declared.exact_parts.part.Part.TheVariants as parts
 use Rattle.certificates.specs.ExactParts.Parts.{node_parts}
-use Rattle.certificates.specs.ExactParts.Left.{TreesLeft, ReaderState, first_of, less_first, settled_from, settled, shorter, trees_left, left_at, parts_left, put_before}
+use Rattle.certificates.specs.ExactParts.Left.{TreesLeft, ReaderState, first_or_zero, less_first, settled_from, settled, shorter, trees_left, left_at, parts_left, put_before}
 use Rattle.certificates.specs.ExactParts.Nodes.{AwaitsTree, behind_bytes}
 use Rattle.certificates.proofs.ExactParts.Settling.{settles}
 use Rattle.certificates.proofs.ExactParts.OneNode.{some_wide, first_node}
@@ -124,9 +124,9 @@ nodes_behind s left awaits some ns here rest more le read = by s.trees.lengths r
 
     by : (ls : List ℕ) → s.trees.lengths ≡ ls
         → left_at s.awaited s.trees total (s.kept ++ (here ++ more)) ≡ put_all (node_parts f ns) (left_at s.awaited (settled (shorter used s.trees)) (s.given + used + length (rest ++ more)) (s.kept ++ (rest ++ more)))
-    by [] e = absurd (omega (arith, some, awaits.left_is, ap first_of e))
+    by [] e = absurd (omega (arith, some, awaits.left_is, ap first_or_zero e))
     by (m ∷ ls) e =
-        let is : m ≡ left = sym (ap first_of e) ∙ awaits.left_is in
+        let is : m ≡ left = sym (ap first_or_zero e) ∙ awaits.left_is in
         let fewer : List ℕ = (m - used) ∷ ls in
         let behind : settled (shorter used s.trees) ≡ settled_from f fewer = ap (λ (xs : List ℕ). settled_from f (less_first used xs)) e in
         let bytes = rest ++ more in

@@ -31,12 +31,12 @@ pub record IsThreeInOrder (c : ExactParts) : Type 0 where
 -- ---- the spelling
 
 -- the magic, version 3, the map's sizes, and how many groups there are
-abbrev pub front_bytes : Sizes → ℕ → List ℕ
-front_bytes sizes groups = codes "DSCT" ++ u16 3 ++ u16 sizes.sectors ++ u16 sizes.points ++ u16 sizes.lines ++ u16 groups
+abbrev pub exact_front_bytes : Sizes → ℕ → List ℕ
+exact_front_bytes sizes groups = codes "DSCT" ++ u16 3 ++ u16 sizes.sectors ++ u16 sizes.points ++ u16 sizes.lines ++ u16 groups
 
 -- and how many triangles and rays
-abbrev pub header_bytes : ExactParts → List ℕ
-header_bytes c = front_bytes c.sizes (length c.groups) ++ u32 (length c.triangles) ++ u32 (length c.rays)
+abbrev pub exact_header_bytes : ExactParts → List ℕ
+exact_header_bytes c = exact_front_bytes c.sizes (length c.groups) ++ u32 (length c.triangles) ++ u32 (length c.rays)
 
 abbrev pub nodes_bytes : List Node → List ℕ
 nodes_bytes ns = flat_map node_bytes ns
@@ -46,7 +46,7 @@ abbrev pub length_bytes : List Node → List ℕ
 length_bytes ns = u64 (length (nodes_bytes ns))
 
 unfoldable pub spelling : ExactParts → List ℕ
-spelling c = header_bytes c ++ flat_map group_bytes c.groups ++ flat_map triangle_bytes c.triangles ++ flat_map ray_bytes c.rays ++ flat_map length_bytes c.trees ++ flat_map nodes_bytes c.trees
+spelling c = exact_header_bytes c ++ flat_map group_bytes c.groups ++ flat_map triangle_bytes c.triangles ++ flat_map ray_bytes c.rays ++ flat_map length_bytes c.trees ++ flat_map nodes_bytes c.trees
 
 -- the bytes spell the certificate, for a map of these sizes
 pub record SpellsThree (sizes : Sizes) (bytes : List ℕ) (c : ExactParts) : Type 0 where

@@ -20,7 +20,7 @@ abbrev pub parts_from : Option (List (List ℕ)) → ReaderState → List ℕ �
 parts_from groups reader bytes = parts_left reader bytes >>= λ parts. Ok (groups, parts)
 
 -- these groups are read, and the reader goes on where the rest begins
-pub record IsBegun (sizes : Sizes) (bytes : List ℕ) (groups : Option (List (List ℕ))) (reader : ReaderState) (rest : List ℕ) : Type 0 where
+pub record IsListingBegun (sizes : Sizes) (bytes : List ℕ) (groups : Option (List (List ℕ))) (reader : ReaderState) (rest : List ℕ) : Type 0 where
   -- whatever bytes come behind
   pub parts : (more : List ℕ) → reading_any_parts sizes (bytes ++ more) ≡ parts_from groups reader (rest ++ more)
   pub given : reader.given + length rest ≡ length bytes
@@ -29,4 +29,4 @@ pub record IsBegun (sizes : Sizes) (bytes : List ℕ) (groups : Option (List (Li
 -- what is told of these bytes: that alone they are cut, or what they begin with
 abbrev pub BeginsAs : Sizes → List ℕ → Beginning → Type 0
 BeginsAs sizes bytes (Cut at) = reading_any_parts sizes bytes ≡ Err (faults.Short at)
-BeginsAs sizes bytes (Read groups reader rest) = IsBegun sizes bytes groups reader rest.now
+BeginsAs sizes bytes (Read groups reader rest) = IsListingBegun sizes bytes groups reader rest.now

@@ -26,8 +26,8 @@ pub record GatheredParts : Type 0 where
   pub trees : List Tree
   pub tree : Option Tree
 
-abbrev pub nothing : GatheredParts
-nothing = record { triangles = []; rays = []; listed = []; trees = []; tree = None }
+abbrev pub nothing_gathered : GatheredParts
+nothing_gathered = record { triangles = []; rays = []; listed = []; trees = []; tree = None }
 
 -- the last tree has ended
 abbrev pub tree_ended : GatheredParts → GatheredParts
@@ -36,16 +36,16 @@ tree_ended g = record g { trees = g.trees ++ option_to_list g.tree; tree = None 
 abbrev pub with_node : Node → Tree → Tree
 with_node n t = record { source = t.source; nodes = t.nodes ++ n ∷ [] }
 
-abbrev pub with_part : GatheredParts → Part → GatheredParts
-with_part g (parts.Triangle t) = record g { triangles = g.triangles ++ t ∷ [] }
-with_part g (parts.Ray r) = record g { rays = g.rays ++ r ∷ [] }
-with_part g (parts.Listed p) = record g { listed = g.listed ++ p ∷ [] }
-with_part g (parts.Tree source nodes) = record g { trees = g.trees ++ option_to_list g.tree; tree = Some (record { source = source; nodes = [] }) }
-with_part g (parts.Node n) = record g { tree = option_map (with_node n) g.tree }
+abbrev pub with_gathered : GatheredParts → Part → GatheredParts
+with_gathered g (parts.Triangle t) = record g { triangles = g.triangles ++ t ∷ [] }
+with_gathered g (parts.Ray r) = record g { rays = g.rays ++ r ∷ [] }
+with_gathered g (parts.Listed p) = record g { listed = g.listed ++ p ∷ [] }
+with_gathered g (parts.Tree source nodes) = record g { trees = g.trees ++ option_to_list g.tree; tree = Some (record { source = source; nodes = [] }) }
+with_gathered g (parts.Node n) = record g { tree = option_map (with_node n) g.tree }
 
 abbrev pub with_parts : GatheredParts → List Part → GatheredParts
 with_parts g [] = g
-with_parts g (part ∷ others) = with_parts (with_part g part) others
+with_parts g (part ∷ others) = with_parts (with_gathered g part) others
 
 -- ---- what a reader still gives
 
@@ -68,6 +68,6 @@ abbrev pub two_in : Sizes → List (List ℕ) → GatheredParts → CertTwo
 two_in sizes groups g = record { groups = groups; cert = core_in sizes (Some groups) g; listed = g.listed }
 
 -- for a map of these sizes; of version 2 where there are groups
-abbrev pub cert_in : Sizes → Option (List (List ℕ)) → GatheredParts → AnyCert
-cert_in sizes None g = One (core_in sizes None g)
-cert_in sizes (Some groups) g = Two (two_in sizes groups g) sizes
+abbrev pub gathered_cert : Sizes → Option (List (List ℕ)) → GatheredParts → AnyCert
+gathered_cert sizes None g = One (core_in sizes None g)
+gathered_cert sizes (Some groups) g = Two (two_in sizes groups g) sizes

@@ -3,7 +3,7 @@ use Rattle.std.specs.Prelude.{ℕ, ◌+◌, ◌<◌, ◌^◌, List, ◌∷◌, �
 use Rattle.sight_names.specs.declared.faults.CertFault.{CertFault}
 use Rattle.sight_names.specs.declared.faults.CertFault.TheVariants as faults
 use Rattle.cert_format.specs.declared.cert.Sizes.{Sizes}
-use Rattle.cert_format.specs.Reading.{◌>>=◌, Counts, begins_at, passed, front_at, counts_at, triangles_at, rays_at, pairs_at, nodes_at, trees_at}
+use Rattle.cert_format.specs.Reading.{◌>>=◌, RecordCounts, begins_at, passed, front_at, counts_at, triangles_at, rays_at, pairs_at, nodes_at, trees_at}
 use Rattle.certificates.specs.declared.cert_parts.awaited.Awaited.{Awaited}
 use Rattle.certificates.specs.declared.cert_parts.part.Part.{Part}
 use Rattle.certificates.specs.declared.cert_parts.part.Part.TheVariants as parts
@@ -43,13 +43,13 @@ triangles_left a total bytes = do
   Ok (map (λ t. parts.Triangle t) triangles.0 ++ others)
 
 -- the whole header
-unfoldable pub header_at : Sizes → ℕ → List ℕ → Result (Counts × List ℕ) CertFault
+unfoldable pub header_at : Sizes → ℕ → List ℕ → Result (RecordCounts × List ℕ) CertFault
 header_at sizes total bytes = do
   front ← front_at sizes total bytes
   counts_at sizes.points total front
 
 -- behind a header with these counts all their records are awaited
-abbrev pub all_awaited : Sizes → Counts → Awaited
+abbrev pub all_awaited : Sizes → RecordCounts → Awaited
 all_awaited sizes counts = record {
   sizes = sizes;
   map_sizes = sizes;

@@ -18,12 +18,12 @@ abbrev pub tree_parts : Tree → List Part
 tree_parts t = parts.Tree t.source (length t.nodes) ∷ map (λ n. parts.Node n) t.nodes
 
 -- triangles, rays, listed pairs, and then trees, as the bytes have them
-abbrev pub parts_of : CertParts → List Part
-parts_of c = map (λ t. parts.Triangle t) c.triangles ++ (map (λ r. parts.Ray r) c.rays ++ (map (λ p. parts.Listed p) c.listed ++ flat_map tree_parts c.trees))
+abbrev pub parts_of_listing : CertParts → List Part
+parts_of_listing c = map (λ t. parts.Triangle t) c.triangles ++ (map (λ r. parts.Ray r) c.rays ++ (map (λ p. parts.Listed p) c.listed ++ flat_map tree_parts c.trees))
 
 -- the parts of the certificate that all of the bytes spell, or the first fault
 abbrev pub reading_parts : Sizes → List ℕ → Result (List Part) CertFault
-reading_parts sizes bytes = reading sizes bytes >>= λ c. Ok (parts_of c)
+reading_parts sizes bytes = reading sizes bytes >>= λ c. Ok (parts_of_listing c)
 
 -- nothing of a node is lost where it is kept as its spelling
 abbrev pub IsPackablePart : Part → Type 0
@@ -41,7 +41,7 @@ abbrev pub AnyParts : Type 0
 AnyParts = Option (List (List ℕ)) × List Part
 
 abbrev pub any_parts_of : AnyCert → AnyParts
-any_parts_of (One c) = (None, parts_of c)
+any_parts_of (One c) = (None, parts_of_listing c)
 any_parts_of (Two c sizes) = (Some c.groups, two_parts_of c)
 
 abbrev pub reading_any_parts : Sizes → List ℕ → Result AnyParts CertFault

@@ -14,7 +14,7 @@ abbrev pub parts_from : List (List ℕ) → ReaderState → List ℕ → Result 
 parts_from groups reader bytes = parts_left reader bytes >>= λ parts. Ok (groups, parts)
 
 -- these groups are read, and the reader goes on where the rest begins
-pub record IsBegun (sizes : Sizes) (bytes : List ℕ) (groups : List (List ℕ)) (reader : ReaderState) (rest : List ℕ) : Type 0 where
+pub record IsExactBegun (sizes : Sizes) (bytes : List ℕ) (groups : List (List ℕ)) (reader : ReaderState) (rest : List ℕ) : Type 0 where
   -- whatever bytes come behind
   pub parts : (more : List ℕ) → reading_three_parts sizes (bytes ++ more) ≡ parts_from groups reader (rest ++ more)
   pub given : reader.given + length rest ≡ length bytes
@@ -22,4 +22,4 @@ pub record IsBegun (sizes : Sizes) (bytes : List ℕ) (groups : List (List ℕ))
 -- what is told of these bytes: that alone they are cut, or what they begin with
 abbrev pub BeginsAs : Sizes → List ℕ → Beginning → Type 0
 BeginsAs sizes bytes (Cut at) = reading_three_parts sizes bytes ≡ Err (faults.Short at)
-BeginsAs sizes bytes (Read groups reader rest) = IsBegun sizes bytes groups reader rest.now
+BeginsAs sizes bytes (Read groups reader rest) = IsExactBegun sizes bytes groups reader rest.now

@@ -17,9 +17,9 @@ pub record TreesLeft : Type 0 where
   pub lengths : List ℕ
 
 -- of the first, 0 where there is none
-abbrev pub first_of : List ℕ → ℕ
-first_of [] = 0
-first_of (n ∷ ns) = n
+abbrev pub first_or_zero : List ℕ → ℕ
+first_or_zero [] = 0
+first_or_zero (n ∷ ns) = n
 
 -- one more length
 abbrev pub put_length : ℕ → TreesLeft → TreesLeft
@@ -43,9 +43,9 @@ abbrev pub settled : TreesLeft → TreesLeft
 settled t = settled_from t.source t.lengths
 
 -- something is left of the first tree
-abbrev pub IsSettled : List ℕ → Type 0
-IsSettled [] = Unit {0}
-IsSettled (n ∷ ns) = 0 < n
+abbrev pub IsFirstTreeLeft : List ℕ → Type 0
+IsFirstTreeLeft [] = Unit {0}
+IsFirstTreeLeft (n ∷ ns) = 0 < n
 
 -- ---- of records that are awaited, read from the bytes that are left
 

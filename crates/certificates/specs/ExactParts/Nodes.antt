@@ -1,6 +1,6 @@
 -- Nodes of a tree that are taken from a piece, while the reader stays where the first of them began.
 use Rattle.std.specs.Prelude.{◌≡◌, ℕ, ◌+◌, []}
-use Rattle.certificates.specs.ExactParts.Left.{ReaderState, first_of, settled, shorter}
+use Rattle.certificates.specs.ExactParts.Left.{ReaderState, first_or_zero, settled, shorter}
 
 -- so many bytes of a tree come next, and none of them is kept
 pub record AwaitsTree (s : ReaderState) (left : ℕ) : Type 0 where
@@ -8,7 +8,7 @@ pub record AwaitsTree (s : ReaderState) (left : ℕ) : Type 0 where
   pub triangles : s.awaited.triangles ≡ 0
   pub rays : s.awaited.rays ≡ 0
   pub lengths : s.awaited.lengths ≡ 0
-  pub left_is : first_of s.trees.lengths ≡ left
+  pub left_is : first_or_zero s.trees.lengths ≡ left
 
 -- the reader once nodes of so many bytes of the tree were taken
 abbrev pub behind_bytes : ReaderState → ℕ → ReaderState

@@ -19,15 +19,15 @@ tree_parts f [] = []
 tree_parts f (ns ∷ trees) = node_parts f ns ++ tree_parts (suc f) trees
 
 -- triangles, rays, a length for each tree, and then all nodes, as the bytes have them
-abbrev pub parts_of : ExactParts → List Part
-parts_of c = map (λ t. parts.Triangle t) c.triangles ++ (map (λ r. parts.Ray r) c.rays ++ (map (λ (ns : List Node). parts.Length) c.trees ++ tree_parts 0 c.trees))
+abbrev pub parts_of_exact : ExactParts → List Part
+parts_of_exact c = map (λ t. parts.Triangle t) c.triangles ++ (map (λ r. parts.Ray r) c.rays ++ (map (λ (ns : List Node). parts.Length) c.trees ++ tree_parts 0 c.trees))
 
 -- the groups, and the parts
 abbrev pub ThreeParts : Type 0
 ThreeParts = List (List ℕ) × List Part
 
 abbrev pub three_parts_of : ExactParts → ThreeParts
-three_parts_of c = (c.groups, parts_of c)
+three_parts_of c = (c.groups, parts_of_exact c)
 
 -- those of the certificate that all of the bytes spell, or the first fault
 abbrev pub reading_three_parts : Sizes → List ℕ → Result ThreeParts CertFault

@@ -9,7 +9,7 @@ use Rattle.certificates.specs.declared.exact_parts.awaited.Awaited.{Awaited}
 use Rattle.certificates.specs.declared.exact_parts.front.FrontThree.{FrontThree}
 use Rattle.certificates.specs.declared.exact_parts.part.Part.{Part}
 use Rattle.certificates.specs.declared.exact_parts.part.Part.TheVariants as parts
-use Rattle.certificates.specs.ExactParts.Left.{TreesLeft, first_of, put_length, settled, shorter}
+use Rattle.certificates.specs.ExactParts.Left.{TreesLeft, first_or_zero, put_length, settled, shorter}
 
 -- behind the groups all records are awaited that the front counts
 abbrev pub all_awaited : FrontThree → Awaited
@@ -24,7 +24,7 @@ all_awaited front = record {
 
 -- no record is awaited any more
 abbrev pub is_done : Awaited → TreesLeft → Bool
-is_done a t = a.triangles == 0 && a.rays == 0 && a.lengths == 0 && first_of t.lengths == 0
+is_done a t = a.triangles == 0 && a.rays == 0 && a.lengths == 0 && first_or_zero t.lengths == 0
 
 -- ---- the first record
 
@@ -64,7 +64,7 @@ first_at a t total bytes =
     if nat_lt 0 a.triangles then before_trees t (triangle_step a total bytes)
     else if nat_lt 0 a.rays then before_trees t (ray_step a total bytes)
     else if nat_lt 0 a.lengths then length_step a t total bytes
-    else if nat_lt 0 (first_of t.lengths) then in_trees a (node_step t total bytes)
+    else if nat_lt 0 (first_or_zero t.lengths) then in_trees a (node_step t total bytes)
     else Err (faults.Trailing (begins_at total bytes))
 
 -- without the bytes behind it
@@ -82,4 +82,4 @@ width_at a t bytes =
     if nat_lt 0 a.triangles then 8
     else if nat_lt 0 a.rays then 24
     else if nat_lt 0 a.lengths then 8
-    else room_for (first_width bytes) (first_of t.lengths)
+    else room_for (first_width bytes) (first_or_zero t.lengths)

@@ -2,14 +2,14 @@
 
 ghost use Rattle.std.specs.Prelude.{◌≡◌, length, ◌<◌, ◌^◌};
 ghost use Rattle.cert_format.specs.Grammar.{AreSmall};
-ghost use Rattle.certificates.specs.CertExact.Grammar.{front_bytes, header_bytes};
+ghost use Rattle.certificates.specs.CertExact.Grammar.{exact_front_bytes, exact_header_bytes};
 
 use crate::cert_exact::cert::ExactParts;
 use cert_format::Sizes;
 
 /// The magic, version 3, the sizes, and how many groups there are.
 fn front_of(sizes: Sizes, groups: u16) -> [u8; 14]
-    ensures spelled { result ≡ front_bytes sizes groups }
+    ensures spelled { result ≡ exact_front_bytes sizes groups }
     ensures small { AreSmall sizes }
 {
     let [sectors, sectors_high] = sizes.sectors.to_le_bytes();
@@ -40,7 +40,7 @@ pub fn header_of(cert: &ExactParts) -> [u8; 22]
     requires groups { length cert.now.groups < 2 ^ 16 }
     requires triangles { length cert.now.triangles < 2 ^ 32 }
     requires rays { length cert.now.rays < 2 ^ 32 }
-    ensures spelled { result ≡ header_bytes cert.now }
+    ensures spelled { result ≡ exact_header_bytes cert.now }
     ensures small { AreSmall cert.now.sizes }
 {
     let [t0, t1, t2, t3] = (cert.triangles.as_slice().len() as u32).to_le_bytes();

@@ -1,7 +1,7 @@
 //! The beginning of a certificate of version 1 or 2: what comes before its parts.
 
 ghost use Rattle.std.specs.Prelude.{◌≡◌, List, ℕ, ◌++◌, length, Ok, IfOk, IfErr};
-ghost use Rattle.cert_format.specs.Reading.{Fails};
+ghost use Rattle.cert_format.specs.Reading.{FailsCert};
 ghost use Rattle.cert_format.specs.CertGroups.Reading.{version_at};
 ghost use Rattle.certificates.specs.CertParts.Parts.{reading_any_parts};
 ghost use Rattle.certificates.specs.CertParts.Beginning.{BeginsAs, cut_at};
@@ -46,7 +46,7 @@ fn behind_version<'a>(
 ) -> Result<Beginning<'a>, CertFault>
     requires { version_at (length bytes.now) bytes.now ≡ Ok (2, behind.now) }
     ensures begins { IfOk result (λ b. BeginsAs sizes.now bytes.now b) }
-    ensures fault { IfErr result (λ f. (more : List ℕ) → Fails f (reading_any_parts sizes.now (bytes.now ++ more))) }
+    ensures fault { IfErr result (λ f. (more : List ℕ) → FailsCert f (reading_any_parts sizes.now (bytes.now ++ more))) }
 {
     let total = bytes.len();
     match front_two_of(alloc, *sizes, total, behind) {
@@ -74,7 +74,7 @@ pub fn beginning_of<'a>(
 ) -> Result<Beginning<'a>, CertFault>
     ensures begins { IfOk result (λ b. BeginsAs sizes.now bytes.now b) }
     // The fault is told whatever bytes come behind, unless memory ran out.
-    ensures fault { IfErr result (λ f. (more : List ℕ) → Fails f (reading_any_parts sizes.now (bytes.now ++ more))) }
+    ensures fault { IfErr result (λ f. (more : List ℕ) → FailsCert f (reading_any_parts sizes.now (bytes.now ++ more))) }
 {
     match version_of(bytes.len(), bytes) {
         Ok((version, behind)) => {

@@ -1,9 +1,9 @@
 //! The parts that a reader gives, gathered to a certificate.
 
 ghost use Rattle.std.specs.Prelude.{◌≡◌, ◌<◌, ◌^◌, [], Some, None, length, IfOk, IfErr, IfSome};
-ghost use Rattle.cert_format.specs.Grammar.{IsInOrder};
-ghost use Rattle.cert_format.specs.Reading.{Fails, Gives};
-ghost use Rattle.certificates.specs.CertParts.Gathered.{cert_in, core_in, gathered_from, nothing, tree_ended, two_in, with_part};
+ghost use Rattle.cert_format.specs.Grammar.{IsOneInOrder};
+ghost use Rattle.cert_format.specs.Reading.{FailsCert, GivesCert};
+ghost use Rattle.certificates.specs.CertParts.Gathered.{gathered_cert, core_in, gathered_from, nothing_gathered, tree_ended, two_in, with_gathered};
 ghost use Rattle.certificates.specs.declared.cert_parts.part.Part.TheVariants.{Node as TheNode};
 ghost use Rattle.certificates.specs.CertParts.Left.{IsCountable};
 ghost use Rattle.certificates.specs.CertParts.Parts.{IsPackablePart};
@@ -38,7 +38,7 @@ impl Model for Gathered {
 
 impl Gathered {
     fn new(alloc: Global) -> Gathered
-        ensures { result ≡ nothing }
+        ensures { result ≡ nothing_gathered }
     {
         Gathered {
             triangles: Vec::new(alloc),
@@ -62,7 +62,7 @@ impl Gathered {
     /// A node of the last tree.
     fn add_node(&mut self, node: Node) -> Result<(), Memory>
         requires { IsPackablePart (TheNode node) }
-        ensures { IfOk result (λ _. self.new ≡ with_part self.old (TheNode node)) }
+        ensures { IfOk result (λ _. self.new ≡ with_gathered self.old (TheNode node)) }
     {
         if let Some(tree) = &mut self.tree {
             tree.nodes.push(node)?;
@@ -73,7 +73,7 @@ impl Gathered {
     /// The next part.
     fn add(&mut self, alloc: Global, part: Part) -> Result<(), Memory>
         requires { IsPackablePart part }
-        ensures { IfOk result (λ _. self.new ≡ with_part self.old part) }
+        ensures { IfOk result (λ _. self.new ≡ with_gathered self.old part) }
     {
         match part {
             Part::Triangle(triangle) => self.triangles.push(triangle)?,
@@ -91,7 +91,7 @@ impl Gathered {
 
     /// The certificate of version 1 for a map of these sizes.
     pub fn into_core(self, sizes: Sizes) -> Cert
-        requires { IsInOrder (core_in sizes None self) }
+        requires { IsOneInOrder (core_in sizes None self) }
         ensures { result ≡ core_in sizes None self }
     {
         Cert {
@@ -106,7 +106,7 @@ impl Gathered {
     /// The certificate of version 2 for a map of these sizes, with these groups.
     fn into_two(self, alloc: Global, sizes: Sizes, groups: Items<Group>) -> CertTwo
         requires few { length groups < 2 ^ 16 }
-        requires in_order { IsInOrder (core_in sizes (Some groups) self) }
+        requires in_order { IsOneInOrder (core_in sizes (Some groups) self) }
         ensures { result ≡ two_in sizes groups self }
     {
         let grouped = Sizes {
@@ -131,8 +131,8 @@ impl Gathered {
     /// The certificate for a map of these sizes; of version 2 where there are groups.
     pub fn into_cert(self, alloc: Global, sizes: Sizes, groups: Option<Items<Group>>) -> AnyCert
         requires few { IfSome groups (λ gs. length gs < 2 ^ 16) }
-        requires in_order { IsInOrder (core_in sizes groups self) }
-        ensures { result ≡ cert_in sizes groups self }
+        requires in_order { IsOneInOrder (core_in sizes groups self) }
+        ensures { result ≡ gathered_cert sizes groups self }
     {
         match groups {
             None => AnyCert::One(self.into_core(sizes)),
@@ -151,7 +151,7 @@ fn take_one<'a>(
     requires countable { IsCountable reader.old rest.now }
     ensures more { IfOk result (λ o. IfSome o (λ behind. gathered_from parts.old reader.old rest.now ≡ gathered_from parts.new reader.new behind.now)) }
     ensures all { IfOk result (λ o. o ≡ None → gathered_from parts.old reader.old rest.now ≡ gathered_from parts.new reader.new []) }
-    ensures fault { IfErr result (λ f. Fails f (gathered_from parts.old reader.old rest.now)) }
+    ensures fault { IfErr result (λ f. FailsCert f (gathered_from parts.old reader.old rest.now)) }
     ensures countable { IfOk result (λ o. IfSome o (λ behind. IsCountable reader.new behind.now)) }
     ensures less { IfOk result (λ o. IfSome o (λ behind. length behind.now < length rest.now)) }
 {
@@ -168,7 +168,7 @@ fn take_one<'a>(
 /// All parts that the reader finds in the bytes that are still to come.
 pub fn gather(alloc: Global, reader: Reader, bytes: &[u8]) -> Result<Gathered, CertFault>
     requires { IsCountable reader bytes.now }
-    ensures { Gives (λ g. g) result (gathered_from nothing reader bytes.now) }
+    ensures { GivesCert (λ g. g) result (gathered_from nothing_gathered reader bytes.now) }
 {
     let mut reader = reader;
     let mut parts = Gathered::new(alloc);

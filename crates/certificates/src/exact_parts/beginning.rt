@@ -1,7 +1,7 @@
 //! The beginning of a certificate of version 3: what comes before its parts.
 
 ghost use Rattle.std.specs.Prelude.{◌≡◌, List, ℕ, ◌++◌, IfOk, IfErr};
-ghost use Rattle.cert_format.specs.Reading.{Fails};
+ghost use Rattle.cert_format.specs.Reading.{FailsCert};
 ghost use Rattle.certificates.specs.CertParts.Beginning.{cut_at};
 ghost use Rattle.certificates.specs.ExactParts.Parts.{reading_three_parts};
 ghost use Rattle.certificates.specs.ExactParts.Beginning.{BeginsAs};
@@ -46,7 +46,7 @@ pub fn beginning_of<'a>(
 ) -> Result<Beginning<'a>, CertFault>
     ensures begins { IfOk result (λ b. BeginsAs sizes.now bytes.now b) }
     // The fault is told whatever bytes come behind, unless memory ran out.
-    ensures fault { IfErr result (λ f. (more : List ℕ) → Fails f (reading_three_parts sizes.now (bytes.now ++ more))) }
+    ensures fault { IfErr result (λ f. (more : List ℕ) → FailsCert f (reading_three_parts sizes.now (bytes.now ++ more))) }
 {
     let total = bytes.len();
     match front_of(alloc, *sizes, total, bytes) {

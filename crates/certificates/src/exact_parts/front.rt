@@ -1,7 +1,7 @@
 //! What comes before the parts: the header and the groups.
 
 ghost use Rattle.cert_format.specs.Grammar.{AreSmall};
-ghost use Rattle.cert_format.specs.Reading.{Gives};
+ghost use Rattle.cert_format.specs.Reading.{GivesCert};
 ghost use Rattle.certificates.specs.ExactParts.Front.{front_at};
 
 use crate::cert_exact::CountsThree;
@@ -28,7 +28,7 @@ pub fn front_of(
     bytes: &[u8],
 ) -> Result<(FrontThree, &[u8]), CertFault>
     ensures small { AreSmall sizes }
-    ensures exact { Gives (λ x. (x.0, x.1.now)) result (front_at sizes total bytes.now) }
+    ensures exact { GivesCert (λ x. (x.0, x.1.now)) result (front_at sizes total bytes.now) }
 {
     let rest = behind_version(total, bytes)?;
     let rest = behind_sizes(sizes, total, rest)?;

@@ -1,7 +1,7 @@
 //! The reader: it is given the bytes behind the groups in pieces, and gives the parts.
 
 ghost use Rattle.std.specs.Prelude.{◌≡◌, ◌+◌, ◌<◌, ◌^◌, ℕ, List, [], ◌++◌, length, Some, None, Ok, IsSome, IfOk, IfErr, OnErr};
-ghost use Rattle.cert_format.specs.Reading.{Fails, Gives};
+ghost use Rattle.cert_format.specs.Reading.{FailsCert, GivesCert};
 ghost use Rattle.certificates.specs.ExactParts.Left.{IsCountable, parts_left, put_before};
 ghost use Rattle.certificates.specs.ExactParts.Nodes.{AwaitsTree, behind_bytes};
 ghost use Rattle.certificates.specs.ExactParts.Steps.{all_awaited, first_at, width_at, without_rest};
@@ -28,7 +28,7 @@ pub struct Reader {
 
 impl Model for Reader {
     ghost use Rattle.std.specs.Prelude.{◌<◌, length};
-    ghost use Rattle.certificates.specs.ExactParts.Left.{IsSettled, ReaderState};
+    ghost use Rattle.certificates.specs.ExactParts.Left.{IsFirstTreeLeft, ReaderState};
     ghost use Rattle.certificates.specs.ExactParts.Steps.{width_at};
 
     ghost Value = { ReaderState };
@@ -36,7 +36,7 @@ impl Model for Reader {
     ghost view = { λ r. record { awaited = r.awaited; trees = r.trees; given = r.given; kept = r.kept.items } };
 
     // What is kept isn't a whole record, and something is left of the first tree.
-    ghost invariant = { λ r. (length r.kept.items < width_at r.awaited r.trees r.kept.items) × IsSettled r.trees.lengths };
+    ghost invariant = { λ r. (length r.kept.items < width_at r.awaited r.trees r.kept.items) × IsFirstTreeLeft r.trees.lengths };
 }
 
 /// Takes the record of which these bytes were kept, and this is the rest.
@@ -47,7 +47,7 @@ fn take_record(
     total: usize,
     front: &[u8],
 ) -> Result<Part, CertFault>
-    ensures read { Gives (λ part. (part, (awaited.new, trees.new))) result (without_rest (first_at awaited.old trees.old total (kept.old.items ++ front.now))) }
+    ensures read { GivesCert (λ part. (part, (awaited.new, trees.new))) result (without_rest (first_at awaited.old trees.old total (kept.old.items ++ front.now))) }
     ensures err { OnErr result ((awaited.new ≡ awaited.old) × (trees.new ≡ trees.old)) }
 {
     if kept.is_empty() {
@@ -85,7 +85,7 @@ impl Reader {
         requires { length (self.old.kept ++ piece.now) < width_at self.old.awaited self.old.trees (self.old.kept ++ piece.now) }
         ensures kept { IfOk result (λ _. (more : List ℕ) → IsCountable self.old piece.now → parts_left self.old (piece.now ++ more) ≡ parts_left self.new more) }
         ensures given { IsCountable self.old piece.now → IfOk result (λ _. self.new.given ≡ self.old.given + length piece.now) }
-        ensures memory { IfErr result (λ f. (more : List ℕ) → Fails f (parts_left self.old (piece.now ++ more))) }
+        ensures memory { IfErr result (λ f. (more : List ℕ) → FailsCert f (parts_left self.old (piece.now ++ more))) }
     {
         match self.kept.extend_from_slice(piece) {
             Ok(()) => {
@@ -103,7 +103,7 @@ impl Reader {
     fn take(&mut self, front: &[u8]) -> Result<Part, CertFault>
         requires { width_at self.old.awaited self.old.trees (self.old.kept ++ front.now) ≡ length (self.old.kept ++ front.now) }
         ensures told { IsCountable self.old front.now → IfOk result (λ part. (more : List ℕ) → parts_left self.old (front.now ++ more) ≡ put_before (Some part) (parts_left self.new more)) }
-        ensures fault { IsCountable self.old front.now → IfErr result (λ f. (more : List ℕ) → Fails f (parts_left self.old (front.now ++ more))) }
+        ensures fault { IsCountable self.old front.now → IfErr result (λ f. (more : List ℕ) → FailsCert f (parts_left self.old (front.now ++ more))) }
         ensures given { IsCountable self.old front.now → IfOk result (λ _. self.new.given ≡ self.old.given + length front.now) }
     {
         let total = self.given.saturating_add(front.len());
@@ -159,7 +159,7 @@ impl Reader {
         // The part comes first of those that were still to come, whatever bytes come behind the piece.
         ensures part { IsCountable self.old piece.now → IfOk result (λ x. (more : List ℕ) → parts_left self.old (piece.now ++ more) ≡ put_before x.0 (parts_left self.new (x.1.now ++ more))) }
         // The fault is told whatever bytes come behind the piece, unless memory ran out.
-        ensures fault { IsCountable self.old piece.now → IfErr result (λ f. (more : List ℕ) → Fails f (parts_left self.old (piece.now ++ more))) }
+        ensures fault { IsCountable self.old piece.now → IfErr result (λ f. (more : List ℕ) → FailsCert f (parts_left self.old (piece.now ++ more))) }
         ensures given { IsCountable self.old piece.now → IfOk result (λ x. self.new.given + length x.1.now ≡ self.old.given + length piece.now) }
         // What is behind the part is an end of the piece.
         ensures rest { IfOk result (λ x. (front : List ℕ) × (piece.now ≡ front ++ x.1.now)) }
@@ -182,7 +182,7 @@ impl Reader {
     /// Whether the bytes that were given are a whole certificate; the fault where they aren't.
     pub fn end(self) -> Result<(), CertFault>
         ensures whole { IfOk result (λ _. parts_left self [] ≡ Ok []) }
-        ensures fault { IfErr result (λ f. Fails f (parts_left self [])) }
+        ensures fault { IfErr result (λ f. FailsCert f (parts_left self [])) }
     {
         if is_done(&self.awaited, &self.trees) && self.kept.is_empty() {
             return Ok(());

@@ -1,7 +1,7 @@
 //! The record that comes first: how many bytes it takes, and its part taken from them.
 
 ghost use Rattle.std.specs.Prelude.{◌≡◌, ◌<◌, ◌++◌, OnErr};
-ghost use Rattle.cert_format.specs.Reading.{Gives, GivesExactly};
+ghost use Rattle.cert_format.specs.Reading.{GivesCert, GivesExactly};
 ghost use Rattle.certificates.specs.CertParts.Steps.{first_width, node_width};
 ghost use Rattle.certificates.specs.ExactParts.Steps.{first_at, is_done, length_step, node_step, room_for, width_at};
 
@@ -83,7 +83,7 @@ fn take_length<'a>(
     bytes: &'a [u8],
 ) -> Result<(Part, &'a [u8]), CertFault>
     requires { 0 < awaited.old.lengths }
-    ensures read { Gives (λ x. ((x.0, (awaited.new, trees.new)), x.1.now)) result (length_step awaited.old trees.old total bytes.now) }
+    ensures read { GivesCert (λ x. ((x.0, (awaited.new, trees.new)), x.1.now)) result (length_step awaited.old trees.old total bytes.now) }
     ensures err { OnErr result ((awaited.new ≡ awaited.old) × (trees.new ≡ trees.old)) }
 {
     let (length, rest) = u64_at(total, bytes)?;
@@ -119,7 +119,7 @@ pub fn take<'a>(
     total: usize,
     bytes: &'a [u8],
 ) -> Result<(Part, &'a [u8]), CertFault>
-    ensures read { Gives (λ x. ((x.0, (awaited.new, trees.new)), x.1.now)) result (first_at awaited.old trees.old total bytes.now) }
+    ensures read { GivesCert (λ x. ((x.0, (awaited.new, trees.new)), x.1.now)) result (first_at awaited.old trees.old total bytes.now) }
     ensures err { OnErr result ((awaited.new ≡ awaited.old) × (trees.new ≡ trees.old)) }
 {
     if awaited.triangles > 0 {

@@ -1,7 +1,7 @@
 //! How many bytes are still to come of each tree.
 
 ghost use Rattle.std.specs.Prelude.{◌≡◌, [], IfOk, OnErr};
-ghost use Rattle.certificates.specs.ExactParts.Left.{first_of, put_length, settled, shorter};
+ghost use Rattle.certificates.specs.ExactParts.Left.{first_or_zero, put_length, settled, shorter};
 
 use sight_names::Memory;
 use std::alloc::Global;
@@ -46,7 +46,7 @@ impl Trees {
 
     /// How many bytes are left of the first tree, 0 where there is none.
     pub fn first(&self) -> u64
-        ensures { result ≡ first_of self.now.lengths }
+        ensures { result ≡ first_or_zero self.now.lengths }
     {
         match self.lengths.get(self.source) {
             Some(length) => *length,

@@ -10,11 +10,11 @@ use Rattle.gate_floods.specs.RowJudge.Masks.{MaskRows}
 use Rattle.exact_checker.specs.declared.trees.WrongNode.{WrongNode}
 use Rattle.exact_checker.specs.Owning.{OwningParts}
 use Rattle.exact_checker.specs.Judged.{AnswersFor, AnswersForEach}
-use Rattle.task_crew.specs.Done.{AreDone}
+use Rattle.task_crew.specs.Done.{AreTasksDone}
 use Rattle.exact_checker.specs.ExactWorkers.Found.{HasNone, IsFirstFound}
 
 module _ (xs : List HalfEdge) (ms : MaskRows) (roots : List Root) (firsts : List (Option ℕ)) (known : OwningParts) (trees : List (List Node)) (found : List (Option ℕ)) (one_each : length trees ≡ known.count) (count : ℕ) (same : count ≡ known.count)
-    (all : AreDone (λ i o. (ns : List Node) → slice_get trees i ≡ Some ns → AnswersFor xs ms roots firsts known i ns o) count found) where
+    (all : AreTasksDone (λ i o. (ns : List Node) → slice_get trees i ≡ Some ns → AnswersFor xs ms roots firsts known i ns o) count found) where
   right : (n : ℕ) → HasNone found n → (f : ℕ) (ns : List Node) → f < n → slice_get trees f ≡ Some ns → AnswersFor xs ms roots firsts known f ns None
   right n none f ns lt at =
       let l : f < length found = (let a = slice_get_within trees f ns at in let b = all.len in omega (arith, a, b, one_each, same)) in

@@ -21,7 +21,7 @@ use Rattle.mesh_base.proofs.Joined.{Strict, CleanAll, joined}
 use Rattle.mesh_shape.specs.Fills.{FillsSides}
 use Rattle.face_groups.specs.declared.tri_sectors.faces.Walls.{Walls}
 use Rattle.face_groups.specs.TriSectors.Classes.{class_of}
-use Rattle.face_groups.specs.TriSectors.Faces.{AreLinked, IsRow, AreMarkedFaces}
+use Rattle.face_groups.specs.TriSectors.Faces.{AreLinked, IsRowOfLinks, AreMarkedFaces}
 use Rattle.face_groups.specs.TriSectors.Sides.{IsSealedAt}
 use Rattle.face_groups.proofs.TriSectors.GoodLabels.{HasNamedSide}
 use Rattle.face_groups.proofs.TriSectors.PlainFaces.{clean_of}
@@ -46,7 +46,7 @@ strict_in t g r i s =
     ]
 
 -- faces in the words of links: one face has the triangles that links join
-row_class : (m : Map) (ts : List Triangle) (ws : List Walls) (fs : List ℕ) → Ground m ts ws fs → (k : ℕ) (is : List ℕ) (j : ℕ) → IsRow ts ws k is j → class_of fs k ≡ class_of fs j
+row_class : (m : Map) (ts : List Triangle) (ws : List Walls) (fs : List ℕ) → Ground m ts ws fs → (k : ℕ) (is : List ℕ) (j : ℕ) → IsRowOfLinks ts ws k is j → class_of fs k ≡ class_of fs j
 row_class m ts ws fs d k [] j e = ap (class_of fs) e
 row_class m ts ws fs d k (i ∷ is) j (inl link, row) = d.faces.linked k i link ∙ row_class m ts ws fs d i is j row
 row_class m ts ws fs d k (i ∷ is) j (inr link, row) = sym (d.faces.linked i k link) ∙ row_class m ts ws fs d i is j row

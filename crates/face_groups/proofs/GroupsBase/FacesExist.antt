@@ -11,7 +11,7 @@ use Rattle.sight_names.proofs.Portals.{triangle_within}
 use Rattle.mesh_base.proofs.GoodMesh.{PointFacts}
 use Rattle.face_groups.specs.declared.tri_sectors.faces.Walls.{Walls}
 use Rattle.face_groups.specs.TriSectors.Classes.{class_of, AreLeast, AreSingles, AreMerged, WillBeOne, renamed}
-use Rattle.face_groups.specs.TriSectors.Faces.{edge_pq, edge_qr, edge_rp, HasMarks, IsWall, AreWalls, AreFaces, IsCrossed}
+use Rattle.face_groups.specs.TriSectors.Faces.{edge_pq, edge_qr, edge_rp, HasMarks, IsWallAt, AreWalls, AreFaces, JoinsAcross}
 use Rattle.face_groups.proofs.TriSectors.FaceLemmas.{AreLinkedBefore, none_linked, triangle_linked, all_linked, any_walls}
 use Rattle.face_groups.proofs.TriSectors.FaceRegion.{Ground}
 use Rattle.face_groups.proofs.TriSectors.ClassLemmas.{merged_back, renamed_cases}
@@ -19,18 +19,18 @@ use Rattle.face_groups.proofs.TriSectors.ClassLemmas.{merged_back, renamed_cases
 -- ---- marked edges
 
 module _ (m : Map) (facts : PointFacts m) (ts : List Triangle) where
-  no_mark : (k : ℕ) (e : Edge) → (IsWall m ts k e → ⊥) → (b : Bool) × (IsTrue b ↔ IsWall m ts k e)
+  no_mark : (k : ℕ) (e : Edge) → (IsWallAt m ts k e → ⊥) → (b : Bool) × (IsTrue b ↔ IsWallAt m ts k e)
   no_mark k e n = (false, (λ h. absurd (false≢true h), λ w. absurd (n w)))
 
-  mark : (k : ℕ) (e : Edge) → (b : Bool) × (IsTrue b ↔ IsWall m ts k e)
-  mark k e = elim (facts.dec_line e) as (λ _. (b : Bool) × (IsTrue b ↔ IsWall m ts k e)) [
+  mark : (k : ℕ) (e : Edge) → (b : Bool) × (IsTrue b ↔ IsWallAt m ts k e)
+  mark k e = elim (facts.dec_line e) as (λ _. (b : Bool) × (IsTrue b ↔ IsWallAt m ts k e)) [
     | inr n ↦ no_mark k e (λ w. n w.0)
     | inl line ↦ first line (triangle_at ts e) refl
   ]
     where
-      first : IsLineEdge m e → (o : Option ℕ) → triangle_at ts e ≡ o → (b : Bool) × (IsTrue b ↔ IsWall m ts k e)
+      first : IsLineEdge m e → (o : Option ℕ) → triangle_at ts e ≡ o → (b : Bool) × (IsTrue b ↔ IsWallAt m ts k e)
       first line None there = no_mark k e (λ w. none-some k (sym there ∙ w.1))
-      first line (Some j) there = elim (below_above_or_same j k) as (λ _. (b : Bool) × (IsTrue b ↔ IsWall m ts k e)) [
+      first line (Some j) there = elim (below_above_or_same j k) as (λ _. (b : Bool) × (IsTrue b ↔ IsWallAt m ts k e)) [
         | inl lt ↦ no_mark k e (λ w. let q = same_Some j k (sym there ∙ w.1) in omega (arith, lt, q))
         | inr (inl gt) ↦ no_mark k e (λ w. let q = same_Some j k (sym there ∙ w.1) in omega (arith, gt, q))
         | inr (inr q) ↦ (true, (λ h. (line, there ∙ ap (λ (x : ℕ). Some x) q), λ w. refl))
@@ -38,7 +38,7 @@ module _ (m : Map) (facts : PointFacts m) (ts : List Triangle) where
 
   record AreMarks (n : ℕ) (us : List Triangle) (ws : List Walls) : Type 0 where
     len : length ws ≡ length us
-    each : (k : ℕ) (t : Triangle) (d : Walls) → slice_get us k ≡ Some t → HasMarks (IsWall m ts (n + k)) t (slice_index_or ws k d)
+    each : (k : ℕ) (t : Triangle) (d : Walls) → slice_get us k ≡ Some t → HasMarks (IsWallAt m ts (n + k)) t (slice_index_or ws k d)
 
   marks_from : (n : ℕ) (us : List Triangle) → (ws : List Walls) × AreMarks n us ws
   marks_from n [] = ([], record { len = refl; each = λ k t d e. absurd (none-some t e) })
@@ -46,15 +46,15 @@ module _ (m : Map) (facts : PointFacts m) (ts : List Triangle) where
       let r = marks_from (suc n) us in
       let a = mark n (edge_pq u) in let b = mark n (edge_qr u) in let c = mark n (edge_rp u) in
       let w : Walls = record { pq = a.0; qr = b.0; rp = c.0 } in
-      let marks : HasMarks (IsWall m ts n) u w = record { pq = a.1; qr = b.1; rp = c.1 } in
+      let marks : HasMarks (IsWallAt m ts n) u w = record { pq = a.1; qr = b.1; rp = c.1 } in
       (w ∷ r.0, record { len = ap suc r.1.len; each = λ k t d e. each w marks r.0 r.1 k t d e })
     where
-      each : (w : Walls) → HasMarks (IsWall m ts n) u w → (ws : List Walls) → AreMarks (suc n) us ws → (k : ℕ) (t : Triangle) (d : Walls) → slice_get (u ∷ us) k ≡ Some t → HasMarks (IsWall m ts (n + k)) t (slice_index_or (w ∷ ws) k d)
-      each w h ws r zero t d e = subst (λ (x : ℕ). HasMarks (IsWall m ts x) t w) (omega arith) (subst (λ (y : Triangle). HasMarks (IsWall m ts n) y w) (same_Some u t e) h)
-      each w h ws r (suc k) t d e = subst (λ (x : ℕ). HasMarks (IsWall m ts x) t (slice_index_or ws k d)) (omega arith) (r.each k t d e)
+      each : (w : Walls) → HasMarks (IsWallAt m ts n) u w → (ws : List Walls) → AreMarks (suc n) us ws → (k : ℕ) (t : Triangle) (d : Walls) → slice_get (u ∷ us) k ≡ Some t → HasMarks (IsWallAt m ts (n + k)) t (slice_index_or (w ∷ ws) k d)
+      each w h ws r zero t d e = subst (λ (x : ℕ). HasMarks (IsWallAt m ts x) t w) (omega arith) (subst (λ (y : Triangle). HasMarks (IsWallAt m ts n) y w) (same_Some u t e) h)
+      each w h ws r (suc k) t d e = subst (λ (x : ℕ). HasMarks (IsWallAt m ts x) t (slice_index_or ws k d)) (omega arith) (r.each k t d e)
 
   pub walls_exist : (ws : List Walls) × AreWalls m ts ws
-  walls_exist = let r = marks_from 0 ts in (r.0, record { one_each = r.1.len; each = λ k t d e. subst (λ (x : ℕ). HasMarks (IsWall m ts x) t (slice_index_or r.0 k d)) (omega arith) (r.1.each k t d e) })
+  walls_exist = let r = marks_from 0 ts in (r.0, record { one_each = r.1.len; each = λ k t d e. subst (λ (x : ℕ). HasMarks (IsWallAt m ts x) t (slice_index_or r.0 k d)) (omega arith) (r.1.each k t d e) })
 
 -- ---- classes
 
@@ -157,7 +157,7 @@ merge_exists a b old ha hb least = elim (below_above_or_same (class_of old a) (c
 
 module _ (ts : List Triangle) where
   record Crosses (is_line : Bool) (k : ℕ) (e : Edge) (old new : List ℕ) : Type 0 where
-    crossed : IsCrossed ts is_line k e old new
+    crossed : JoinsAcross ts is_line k e old new
     named : AreLeast new
     len : length new ≡ length old
 

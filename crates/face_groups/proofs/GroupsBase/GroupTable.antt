@@ -11,7 +11,7 @@ use Rattle.sight_names.proofs.Portals.{triangle_within}
 use Rattle.mesh_base.proofs.GoodMesh.{found_at}
 use Rattle.face_groups.specs.declared.tri_sectors.faces.Walls.{Walls}
 use Rattle.face_groups.specs.TriSectors.Classes.{class_of}
-use Rattle.face_groups.specs.TriSectors.Faces.{IsLink, IsRow}
+use Rattle.face_groups.specs.TriSectors.Faces.{IsLink, IsRowOfLinks}
 use Rattle.face_groups.proofs.TriSectors.FaceRegion.{Ground, GapOn, only_one}
 use Rattle.face_groups.proofs.TriSectors.FaceTouches.{free_edge}
 use Rattle.face_groups.specs.GroupsBase.Table.{AreUsed, AscendAsLists, NamesLabels, NamedAreLabelled}
@@ -40,7 +40,7 @@ module _ (m : Map) (ts : List Triangle) (ws : List Walls) (fs : List ℕ) (d : G
       let r = mates k f u.0 (reverse_of link.e) u.1 label u.2 (λ line. free.1 (line_turned m link.e line)) in
       subst (λ (x : ℕ). label_of ls x ≡ Some f) (same_Some r.0 i (sym r.1 ∙ only_one m ts d.plain link.e i link.t link.at free.0)) r.2
 
-  row_label : (k : ℕ) (is : List ℕ) (j f : ℕ) → IsRow ts ws k is j → label_of ls k ≡ Some f → label_of ls j ≡ Some f
+  row_label : (k : ℕ) (is : List ℕ) (j f : ℕ) → IsRowOfLinks ts ws k is j → label_of ls k ≡ Some f → label_of ls j ≡ Some f
   row_label k [] j f e label = subst (λ (x : ℕ). label_of ls x ≡ Some f) e label
   row_label k (i ∷ is) j f (inl link, row) label = row_label i is j f row (on k i f link label)
   row_label k (i ∷ is) j f (inr link, row) label = row_label i is j f row (back i k f link label)

@@ -11,7 +11,7 @@ use Rattle.sight_names.proofs.Portals.{triangle_within}
 use Rattle.mesh_base.proofs.GoodMesh.{found_at}
 use Rattle.face_groups.specs.declared.tri_sectors.faces.Walls.{Walls}
 use Rattle.face_groups.specs.TriSectors.Classes.{class_of}
-use Rattle.face_groups.specs.TriSectors.Faces.{IsLink, IsRow}
+use Rattle.face_groups.specs.TriSectors.Faces.{IsLink, IsRowOfLinks}
 use Rattle.face_groups.proofs.TriSectors.GoodLabels.{HasNamedSide, walls_at}
 use Rattle.face_groups.proofs.TriSectors.FaceLemmas.{any_walls}
 use Rattle.face_groups.proofs.TriSectors.GoodLabels as good
@@ -42,12 +42,12 @@ module _ (m : Map) (ts : List Triangle) (ws : List Walls) (fs : List ℕ) (d : G
     behind = only_one m ts d.plain (reverse_of h.e) j h.u h.at_too h.has_too;
   }
 
-  way_of_row : (k : ℕ) (is : List ℕ) (j : ℕ) → IsRow ts ws k is j → IsWay m ts k is j
+  way_of_row : (k : ℕ) (is : List ℕ) (j : ℕ) → IsRowOfLinks ts ws k is j → IsWay m ts k is j
   way_of_row k [] j e = e
   way_of_row k (i ∷ is) j (inl link, row) = (across_of_link k i link, way_of_row i is j row)
   way_of_row k (i ∷ is) j (inr link, row) = (turned i k (across_of_link i k link), way_of_row i is j row)
 
-  row_of_way : (k : ℕ) (is : List ℕ) (j : ℕ) → IsWay m ts k is j → IsRow ts ws k is j
+  row_of_way : (k : ℕ) (is : List ℕ) (j : ℕ) → IsWay m ts k is j → IsRowOfLinks ts ws k is j
   row_of_way k [] j e = e
   row_of_way k (i ∷ is) j (h, way) = (inl (link_of_across k i h), row_of_way i is j way)
 

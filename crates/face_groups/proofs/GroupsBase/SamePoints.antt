@@ -5,7 +5,7 @@ use Rattle.sight_names.specs.declared.names.Triangle.{Triangle}
 use Rattle.sight_names.specs.Point.{Point, point_of, turn_at}
 use Rattle.sight_names.specs.Map.{Map, MapLine, origin}
 use Rattle.sight_names.specs.Sound.{MeetAtEnds}
-use Rattle.sight_names.specs.Points.{Edge, ends_of, in_order, points_of, place, number_of, pt_eq}
+use Rattle.sight_names.specs.Points.{Edge, ends_of_lines, in_order, points_of, place, point_number, pt_eq}
 use Rattle.sight_names.specs.Greedy.{square_length, ComesBefore, IsPointPair, EdgesMeetAtEnds, line_edges, IsGreedy}
 use Rattle.sight_names.specs.Mesh.{AreTriangles, IsTriangle, InsideTriangle, IsCounterclockwise, IsEmpty, IsMeshTriangle, IsMeshOf, side_edge, IsLineEdge, MeetsFairly, IsPlainMesh}
 use Rattle.sight_names.specs.Groups.{unnamed}
@@ -14,14 +14,14 @@ use Rattle.face_groups.proofs.GroupsBase.SameLines.{HaveSameLines, IsSameLine, s
 
 -- ---- points
 
-ends_unnamed : (ls : List (Option MapLine)) → ends_of (filter_map (λ l. l) (map unnamed ls)) ≡ ends_of (filter_map (λ l. l) ls)
+ends_unnamed : (ls : List (Option MapLine)) → ends_of_lines (filter_map (λ l. l) (map unnamed ls)) ≡ ends_of_lines (filter_map (λ l. l) ls)
 ends_unnamed [] = refl
 ends_unnamed (None ∷ ls) = ends_unnamed ls
 ends_unnamed (Some l ∷ ls) = ap (λ (ps : List Pt). l.first ∷ l.second ∷ ps) (ends_unnamed ls)
 
 pub points_alike : (m g : Map) → map unnamed g.lines ≡ map unnamed m.lines → points_of m ≡ points_of g
 unfolding points_of
-points_alike m g e = ap in_order (sym (ends_unnamed m.lines) ∙ ap (λ (ls : List (Option MapLine)). ends_of (filter_map (λ l. l) ls)) (sym e) ∙ ends_unnamed g.lines)
+points_alike m g e = ap in_order (sym (ends_unnamed m.lines) ∙ ap (λ (ls : List (Option MapLine)). ends_of_lines (filter_map (λ l. l) ls)) (sym e) ∙ ends_unnamed g.lines)
 
 numbered : List Pt → MapLine → Edge
 numbered ps l = record { from = unwrap_or (position (pt_eq l.first) ps) (length ps); to = unwrap_or (position (pt_eq l.second) ps) (length ps) }
@@ -48,12 +48,12 @@ module _ (m g : Map) (e : map unnamed g.lines ≡ map unnamed m.lines) where
   pub place_alike : (k : ℕ) → place m k ≡ place g k
   place_alike k = ap (λ (ps : List Pt). slice_index_or ps k origin) pts
 
-  number_alike : (p : Pt) → number_of m p ≡ number_of g p
+  number_alike : (p : Pt) → point_number m p ≡ point_number g p
   number_alike p = ap (λ (ps : List Pt). unwrap_or (position (pt_eq p) ps) (length ps)) pts
 
   pub side_edge_alike : (l k : MapLine) (left : Bool) → IsSameLine l k → side_edge m l left ≡ side_edge g k left
-  side_edge_alike l k true h = edge_of_numbers _ _ _ _ (number_alike l.first ∙ ap (number_of g) h.first) (number_alike l.second ∙ ap (number_of g) h.second)
-  side_edge_alike l k false h = edge_of_numbers _ _ _ _ (number_alike l.second ∙ ap (number_of g) h.second) (number_alike l.first ∙ ap (number_of g) h.first)
+  side_edge_alike l k true h = edge_of_numbers _ _ _ _ (number_alike l.first ∙ ap (point_number g) h.first) (number_alike l.second ∙ ap (point_number g) h.second)
+  side_edge_alike l k false h = edge_of_numbers _ _ _ _ (number_alike l.second ∙ ap (point_number g) h.second) (number_alike l.first ∙ ap (point_number g) h.first)
 
   pub inside_alike : (t : Triangle) (p : Point) → InsideTriangle m t p → InsideTriangle g t p
   inside_alike t p h = record { pq = at t.p t.q h.pq; qr = at t.q t.r h.qr; rp = at t.r t.p h.rp }

@@ -8,7 +8,7 @@ use Rattle.sight_names.specs.Found.{AreNeighbours, IsChain, AreConnected}
 use Rattle.sight_names.proofs.PlanMap.{line_of_plan}
 use Rattle.mesh_shape.proofs.RuleLemmas.{plan_line_at}
 use Rattle.face_groups.specs.TriSectors.Classes.{AreLeast, AreMerged, AreSingles, class_of}
-use Rattle.face_groups.specs.TriSectors.Components.{AreComponents, IsDoor, Connects}
+use Rattle.face_groups.specs.TriSectors.Components.{AreComponents, IsPassableBetween, Connects}
 use Rattle.face_groups.specs.TriSectors.Forest.{IsForest, classes_in}
 use Rattle.face_groups.proofs.TriSectors.Forests.{classes_many, forest_named, singles_alone, singles_forest}
 use Rattle.math_base.proofs.Numbers.{below_or_last}
@@ -18,10 +18,10 @@ use Rattle.sight_names.proofs.Records.{none_is_no_line}
 -- ---- one line
 
 -- nothing is put together at a line that is no door
-pub no_door_connects : (l : Line) (cs : List ℕ) → AreLeast cs → ((a b : ℕ) → IsDoor l a b → ⊥) → Connects l cs cs
+pub no_door_connects : (l : Line) (cs : List ℕ) → AreLeast cs → ((a b : ℕ) → IsPassableBetween l a b → ⊥) → Connects l cs cs
 no_door_connects l cs named none = record { len = refl; named = named; keeps = λ k j hk hj e. e; joins = λ a b d. absurd (none a b d); only = λ k j hk hj e. inl e }
 
-pub door_connects : (l : Line) (a b : ℕ) (old new : List ℕ) → IsDoor l a b → a < length old → b < length old → AreMerged a b old new → Connects l old new
+pub door_connects : (l : Line) (a b : ℕ) (old new : List ℕ) → IsPassableBetween l a b → a < length old → b < length old → AreMerged a b old new → Connects l old new
 door_connects l a b old new door ha hb m = record {
   len = m.len;
   named = m.named;
@@ -42,23 +42,23 @@ connected_joined m a b c g h = (g.0 ++ h.0, chain_joined m a b c g.0 h.0 g.1 h.1
 one_step : (m : Map) (a b : ℕ) → AreNeighbours m a b → AreConnected m a b
 one_step m a b n = (b ∷ [], (n, refl))
 
-door_leads : (p : PlanParts) (i : ℕ) (l : Line) (a b : ℕ) → slice_get p.lines i ≡ Some (Some l) → IsDoor l a b → AreNeighbours (map_of p) a b
+door_leads : (p : PlanParts) (i : ℕ) (l : Line) (a b : ℕ) → slice_get p.lines i ≡ Some (Some l) → IsPassableBetween l a b → AreNeighbours (map_of p) a b
 door_leads p i l a b e d = (i, looked_up p.points l, false, plan_line_at p i l e, d.passable, d.right, d.left)
 
-door_leads_back : (p : PlanParts) (i : ℕ) (l : Line) (a b : ℕ) → slice_get p.lines i ≡ Some (Some l) → IsDoor l a b → AreNeighbours (map_of p) b a
+door_leads_back : (p : PlanParts) (i : ℕ) (l : Line) (a b : ℕ) → slice_get p.lines i ≡ Some (Some l) → IsPassableBetween l a b → AreNeighbours (map_of p) b a
 door_leads_back p i l a b e d = (i, looked_up p.points l, true, plan_line_at p i l e, d.passable, d.left, d.right)
 
 pub some_below : (o : Option ℕ) (a n : ℕ) → IfSome o (λ x. x < n) → o ≡ Some a → a < n
 some_below o a n h e = subst (λ (x : Option ℕ). IfSome x (λ y. y < n)) e h
 
-door_below : (p : PlanParts) → IsPlan p → (i : ℕ) (l : Line) (a b : ℕ) → slice_get p.lines i ≡ Some (Some l) → IsDoor l a b → (a < p.sectors) × (b < p.sectors)
+door_below : (p : PlanParts) → IsPlan p → (i : ℕ) (l : Line) (a b : ℕ) → slice_get p.lines i ≡ Some (Some l) → IsPassableBetween l a b → (a < p.sectors) × (b < p.sectors)
 door_below p is i l a b e d = let w = is.each i l e in (some_below l.right a p.sectors w.right d.right, some_below l.left b p.sectors w.left d.left)
 
 -- ---- the loop over the lines
 
 -- the lines before n are passed
 abbrev pub AreJoined : PlanParts → ℕ → List ℕ → Type 0
-AreJoined p n cs = (i a b : ℕ) (l : Line) → i < n → slice_get p.lines i ≡ Some (Some l) → IsDoor l a b → class_of cs a ≡ class_of cs b
+AreJoined p n cs = (i a b : ℕ) (l : Line) → i < n → slice_get p.lines i ≡ Some (Some l) → IsPassableBetween l a b → class_of cs a ≡ class_of cs b
 
 abbrev pub OnlyConnected : PlanParts → List ℕ → Type 0
 OnlyConnected p cs = (k j : ℕ) → k < p.sectors → j < p.sectors → class_of cs k ≡ class_of cs j → AreConnected (map_of p) k j
@@ -81,7 +81,7 @@ begun p cs s named = record {
 joined_more : (p : PlanParts) → IsPlan p → (n : ℕ) (line : Line) (old new : List ℕ) → slice_get p.lines n ≡ Some (Some line) → length old ≡ p.sectors → AreJoined p n old → Connects line old new → AreJoined p (n + 1) new
 joined_more p is n line old new at len h c i a b l lt there door = elim (below_or_last i n lt) as (λ _. class_of new a ≡ class_of new b) [
   | inl less ↦ let w = door_below p is i l a b there door in let w0 = w.0 in let w1 = w.1 in c.keeps a b (omega (arith, len, w0)) (omega (arith, len, w1)) (h i a b l less there door)
-  | inr same ↦ c.joins a b (subst (λ (x : Line). IsDoor x a b) (some_line l line (sym there ∙ ap (slice_get p.lines) same ∙ at)) door)
+  | inr same ↦ c.joins a b (subst (λ (x : Line). IsPassableBetween x a b) (some_line l line (sym there ∙ ap (slice_get p.lines) same ∙ at)) door)
 ]
   where
     some_line : (l k : Line) → ◌≡◌ {A = Option (Option Line)} (Some (Some l)) (Some (Some k)) → l ≡ k
@@ -145,8 +145,8 @@ neighbours_joined p is cs h a b (i, l, left, at, passable, one, other) =
     go left lt k.1 (ap (λ (x : MapLine). x.solid) k.2 ∙ passable) (ap (λ (x : MapLine). sector_on x left) k.2 ∙ one) (ap (λ (x : MapLine). sector_on x (not left)) k.2 ∙ other)
   where
     go : {k : Line} → (left : Bool) → i < length p.lines → slice_get p.lines i ≡ Some (Some k) → k.solid ≡ false → sector_on (looked_up p.points k) left ≡ Some a → sector_on (looked_up p.points k) (not left) ≡ Some b → (class_of cs a ≡ class_of cs b) × (b < p.sectors)
-    go {k} false lt e s f g = let d : IsDoor k a b = record { passable = s; right = f; left = g } in (h i a b k lt e d, (door_below p is i k a b e d).1)
-    go {k} true lt e s f g = let d : IsDoor k b a = record { passable = s; right = g; left = f } in (sym (h i b a k lt e d), (door_below p is i k b a e d).0)
+    go {k} false lt e s f g = let d : IsPassableBetween k a b = record { passable = s; right = f; left = g } in (h i a b k lt e d, (door_below p is i k a b e d).1)
+    go {k} true lt e s f g = let d : IsPassableBetween k b a = record { passable = s; right = g; left = f } in (sym (h i b a k lt e d), (door_below p is i k b a e d).0)
 
 chain_joins : (p : PlanParts) → IsPlan p → (cs : List ℕ) → AreJoined p (length p.lines) cs → (a b : ℕ) (xs : List ℕ) → a < p.sectors → IsChain (map_of p) a xs b → (class_of cs a ≡ class_of cs b) × (b < p.sectors)
 chain_joins p is cs h a b [] lt e = (ap (class_of cs) e, subst (λ (x : ℕ). x < p.sectors) e lt)

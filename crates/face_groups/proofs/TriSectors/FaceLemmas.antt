@@ -15,7 +15,7 @@ use Rattle.mesh_shape.specs.Search.{IsEdgeOf}
 use Rattle.mesh_shape.proofs.RuleLemmas.{edge_cases, plan_line_at, no_line_there}
 use Rattle.face_groups.specs.declared.tri_sectors.faces.Walls.{Walls}
 use Rattle.face_groups.specs.TriSectors.Classes.{AreLeast, AreMerged, AreSingles, class_of}
-use Rattle.face_groups.specs.TriSectors.Faces.{edge_pq, edge_qr, edge_rp, HasMarks, AreMarked, AreWalls, IsWallBefore, IsMarkedMore, IsPutHere, IsPutAt, IsPut, IsFreeEdge, IsLink, HasGap, HasGapHere, IsRow, AreLinked, AreFaces, IsCrossed, AreCrossed, AreOpen}
+use Rattle.face_groups.specs.TriSectors.Faces.{edge_pq, edge_qr, edge_rp, HasMarks, AreWallsMarked, AreWalls, IsWallBefore, IsMarkedMore, IsPutHere, IsPutAt, IsWallPut, IsFreeEdge, IsLink, HasGap, HasGapHere, IsRowOfLinks, AreLinked, AreFaces, JoinsAcross, AreCrossed, AreOpen}
 use Rattle.math_base.proofs.Numbers.{below_or_last}
 use Rattle.math_base.proofs.Options.{one_value}
 use Rattle.mesh_base.proofs.GoodMesh.{found_at}
@@ -48,7 +48,7 @@ put_one ts e f k x old new at from start m = (
 )
 
 pub put_some : (n : ℕ) (ts : List Triangle) (e : Edge) (k : ℕ) (old : List Walls) (t : Triangle) (w d0 : Walls) → AreTriangles n ts → triangle_at ts e ≡ Some k → length old ≡ length ts → slice_get ts k ≡ Some t
-    → IsMarkedMore t e.from (slice_index_or old k d0) w → IsPut ts e old (set old k w)
+    → IsMarkedMore t e.from (slice_index_or old k d0) w → IsWallPut ts e old (set old k w)
 put_some n ts e k old t w d0 are at len there m = record {
   len = length-set old k w;
   each = λ j u d here. elim (cases_eq j k) as (λ _. IsPutAt ts e j u (slice_index_or old j d) (slice_index_or (set old k w) j d)) [
@@ -122,8 +122,8 @@ one_edge_more p is ts n k l at e b0 b1 b2 m0 m1 m2 = (
       ]
     ]
 
-pub line_marked : (p : PlanParts) → IsPlan p → (ts : List Triangle) (n : ℕ) (l : Line) (ws vs us : List Walls) → slice_get p.lines n ≡ Some (Some l) → AreMarked (IsWallBefore (map_of p) ts n) ts ws
-    → IsPut ts (record { from = l.a; to = l.b }) ws vs → IsPut ts (record { from = l.b; to = l.a }) vs us → AreMarked (IsWallBefore (map_of p) ts (n + 1)) ts us
+pub line_marked : (p : PlanParts) → IsPlan p → (ts : List Triangle) (n : ℕ) (l : Line) (ws vs us : List Walls) → slice_get p.lines n ≡ Some (Some l) → AreWallsMarked (IsWallBefore (map_of p) ts n) ts ws
+    → IsWallPut ts (record { from = l.a; to = l.b }) ws vs → IsWallPut ts (record { from = l.b; to = l.a }) vs us → AreWallsMarked (IsWallBefore (map_of p) ts (n + 1)) ts us
 line_marked p is ts n l ws vs us at m f g = record {
   one_each = g.len ∙ f.len ∙ m.one_each;
   each = λ k t d there. let a = m.each k t d there in let b = f.each k t d there in let c = g.each k t d there in record {
@@ -139,13 +139,13 @@ changed V W t w h m = record { pq = both m.pq (h _); qr = both m.qr (h _); rp = 
     both : {A B C : Type 0} → A ↔ B → B ↔ C → A ↔ C
     both f g = (λ x. g.0 (f.0 x), λ z. f.1 (g.1 z))
 
-changed_all : (V W : ℕ → Edge → Type 0) (ts : List Triangle) (ws : List Walls) → ((k : ℕ) (e : Edge) → V k e ↔ W k e) → AreMarked V ts ws → AreMarked W ts ws
+changed_all : (V W : ℕ → Edge → Type 0) (ts : List Triangle) (ws : List Walls) → ((k : ℕ) (e : Edge) → V k e ↔ W k e) → AreWallsMarked V ts ws → AreWallsMarked W ts ws
 changed_all V W ts ws h m = record { one_each = m.one_each; each = λ k t d at. changed (V k) (W k) t (slice_index_or ws k d) (h k) (m.each k t d at) }
 
-pub none_marked : (m : Map) (ts : List Triangle) (ws : List Walls) → AreMarked (λ k e. ⊥) ts ws → AreMarked (IsWallBefore m ts 0) ts ws
+pub none_marked : (m : Map) (ts : List Triangle) (ws : List Walls) → AreWallsMarked (λ k e. ⊥) ts ws → AreWallsMarked (IsWallBefore m ts 0) ts ws
 none_marked m ts ws h = changed_all _ _ ts ws (λ k e. (λ x. absurd x, λ w. let lt = w.0.1 in omega arith)) h
 
-pub no_line_marked : (p : PlanParts) (ts : List Triangle) (n : ℕ) (ws : List Walls) → slice_get p.lines n ≡ Some None → AreMarked (IsWallBefore (map_of p) ts n) ts ws → AreMarked (IsWallBefore (map_of p) ts (n + 1)) ts ws
+pub no_line_marked : (p : PlanParts) (ts : List Triangle) (n : ℕ) (ws : List Walls) → slice_get p.lines n ≡ Some None → AreWallsMarked (IsWallBefore (map_of p) ts n) ts ws → AreWallsMarked (IsWallBefore (map_of p) ts (n + 1)) ts ws
 no_line_marked p ts n ws at h = changed_all _ _ ts ws (λ k e. (wall_later (map_of p) ts n k e, back k e)) h
   where
     no_line : (l : MapLine) → line_at (map_of p) n ≡ Some l → ⊥
@@ -157,7 +157,7 @@ no_line_marked p ts n ws at h = changed_all _ _ ts ws (λ k e. (wall_later (map_
       | inr same ↦ absurd (no_line h.0 (subst (λ (j : ℕ). line_at (map_of p) j ≡ Some h.0) same h.2))
     ]
 
-pub walls_done : (p : PlanParts) (ts : List Triangle) (n : ℕ) (ws : List Walls) → length p.lines ≤ n → AreMarked (IsWallBefore (map_of p) ts n) ts ws → AreWalls (map_of p) ts ws
+pub walls_done : (p : PlanParts) (ts : List Triangle) (n : ℕ) (ws : List Walls) → length p.lines ≤ n → AreWallsMarked (IsWallBefore (map_of p) ts n) ts ws → AreWalls (map_of p) ts ws
 walls_done p ts n ws past h = changed_all _ _ ts ws (λ k e. (
   λ w. ((w.0.0, w.0.2.0, w.0.2.1, w.0.2.2, w.0.2.3), w.1),
   λ w. ((w.0.0, (let lt = line_below p w.0.0 w.0.1 w.0.3 in omega (arith, lt, past)), (w.0.1, w.0.2, w.0.3, w.0.4)), w.1),
@@ -165,8 +165,8 @@ walls_done p ts n ws past h = changed_all _ _ ts ws (λ k e. (
 
 -- ---- links
 
-row_joined : (ts : List Triangle) (ws : List Walls) (a b c : ℕ) (xs ys : List ℕ) → IsRow ts ws a xs b → IsRow ts ws b ys c → IsRow ts ws a (xs ++ ys) c
-row_joined ts ws a b c [] ys e h = subst (λ (k : ℕ). IsRow ts ws k ys c) (sym e) h
+row_joined : (ts : List Triangle) (ws : List Walls) (a b c : ℕ) (xs ys : List ℕ) → IsRowOfLinks ts ws a xs b → IsRowOfLinks ts ws b ys c → IsRowOfLinks ts ws a (xs ++ ys) c
+row_joined ts ws a b c [] ys e h = subst (λ (k : ℕ). IsRowOfLinks ts ws k ys c) (sym e) h
 row_joined ts ws a b c (x ∷ xs) ys g h = (g.0, row_joined ts ws x b c xs ys g.1 h)
 
 pub linked_joined : (ts : List Triangle) (ws : List Walls) (a b c : ℕ) → AreLinked ts ws a b → AreLinked ts ws b c → AreLinked ts ws a c
@@ -216,7 +216,7 @@ merged_stage ts ws n e j old new hn at link len only m =
     }
 
 stage : (ts : List Triangle) (ws : List Walls) (n : ℕ) (t : Triangle) (w : Walls) (e : Edge) (b : Bool) (old new : List ℕ) → slice_get ts n ≡ Some t → slice_get ws n ≡ Some w → (b ≡ false → IsFreeEdge t w e)
-    → length old ≡ length ts → OnlyLinked ts ws old → IsCrossed ts b n e old new → IsStage ts ws n e b old new
+    → length old ≡ length ts → OnlyLinked ts ws old → JoinsAcross ts b n e old new → IsStage ts ws n e b old new
 stage ts ws n t w e true old new at marks free len only c = same_stage ts ws n e true old new len only c (λ j f there. false≢true (sym f))
 stage ts ws n t w e false old new at marks free len only c = go (triangle_at ts (reverse_of e)) refl c
   where

@@ -9,7 +9,7 @@ use Rattle.sight_names.specs.declared.names.Pt.{Pt}
 use Rattle.sight_names.specs.Point.{Point, point_of, turn_at, SamePoint, OnSegment, InsideSegment}
 use Rattle.sight_names.specs.Map.{Map, MapLine, line_at}
 use Rattle.sight_names.specs.Path.{MissesAll, OnNoLine, OnLine, IsPath, Leads}
-use Rattle.sight_names.specs.Points.{Edge, points_of, place, number_of}
+use Rattle.sight_names.specs.Points.{Edge, points_of, place, point_number}
 use Rattle.sight_names.specs.Sound.{IsOutside}
 use Rattle.sight_names.proofs.Laws.{same_point_refl, same_point_sym}
 use Rattle.plane_base.proofs.Vec.{V, Lin, at, edge, det, IsComb, value, det-first, det-last, det-cycle, comb_back}
@@ -163,7 +163,7 @@ none_left m facts e none = record {
     ]
 
 pub places_differ : (m : Map) → PointFacts m → (i j : ℕ) → i < length (points_of m) → j < length (points_of m) → i ≢ j → place m i ≢ place m j
-places_differ m facts i j hi hj differ e = differ (sym (facts.number i hi) ∙ ap (number_of m) e ∙ facts.number j hj)
+places_differ m facts i j hi hj differ e = differ (sym (facts.number i hi) ∙ ap (point_number m) e ∙ facts.number j hj)
 
 -- ---- strictly inside a triangle
 

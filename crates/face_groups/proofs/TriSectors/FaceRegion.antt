@@ -8,7 +8,7 @@ use Rattle.sight_names.specs.declared.names.Triangle.{Triangle}
 use Rattle.sight_names.specs.Point.{Point, point_of}
 use Rattle.sight_names.specs.Map.{Map, MapLine, line_at}
 use Rattle.sight_names.specs.Path.{Touches}
-use Rattle.sight_names.specs.Points.{Edge, reverse_of, points_of, place, number_of}
+use Rattle.sight_names.specs.Points.{Edge, reverse_of, points_of, place, point_number}
 use Rattle.sight_names.specs.Sound.{IsOutside}
 use Rattle.sight_names.specs.Mesh.{HasEdge, label_of, side_edge, triangle_at, IsPlainMesh}
 use Rattle.plane_base.proofs.Vec.{V, Lin, at, det, On, bary}
@@ -151,12 +151,12 @@ touched m ts ws fs d s k p t there =
     touch_walk m (face_list m ts fs (class_of fs k)) (GapOn ts ws fs (class_of fs k)) (region_of m ts ws fs d (class_of fs k)) p s t (side_from t.line s.left) (side_to t.line s.left) w.0 (is_side t.line s.left) (in_all m (class_of fs k) ts (numbers fs) _ w.1)
 
 number_from : (m : Map) (f : PointFacts m) (i : ℕ) (l : MapLine) (left : Bool) → line_at m i ≡ Some l → (k : ℕ) → k < length (points_of m) → side_from l left ≡ pv m k → k ≡ (side_edge m l left).from
-number_from m f i l true is k h e = sym (f.number k h) ∙ ap (number_of m) (sym (pt_of_vec l.first (place m k) e))
-number_from m f i l false is k h e = sym (f.number k h) ∙ ap (number_of m) (sym (pt_of_vec l.second (place m k) e))
+number_from m f i l true is k h e = sym (f.number k h) ∙ ap (point_number m) (sym (pt_of_vec l.first (place m k) e))
+number_from m f i l false is k h e = sym (f.number k h) ∙ ap (point_number m) (sym (pt_of_vec l.second (place m k) e))
 
 number_to : (m : Map) (f : PointFacts m) (i : ℕ) (l : MapLine) (left : Bool) → line_at m i ≡ Some l → (k : ℕ) → k < length (points_of m) → side_to l left ≡ pv m k → k ≡ (side_edge m l left).to
-number_to m f i l true is k h e = sym (f.number k h) ∙ ap (number_of m) (sym (pt_of_vec l.second (place m k) e))
-number_to m f i l false is k h e = sym (f.number k h) ∙ ap (number_of m) (sym (pt_of_vec l.first (place m k) e))
+number_to m f i l true is k h e = sym (f.number k h) ∙ ap (point_number m) (sym (pt_of_vec l.second (place m k) e))
+number_to m f i l false is k h e = sym (f.number k h) ∙ ap (point_number m) (sym (pt_of_vec l.first (place m k) e))
 
 -- the first triangle with an edge is the only one
 pub only_one : (m : Map) (ts : List Triangle) → IsPlainMesh m ts → (e : Edge) (k : ℕ) (t : Triangle) → slice_get ts k ≡ Some t → HasEdge t e → triangle_at ts e ≡ Some k

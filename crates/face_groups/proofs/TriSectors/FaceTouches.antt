@@ -9,7 +9,7 @@ use Rattle.sight_names.specs.declared.names.Triangle.{Triangle}
 use Rattle.sight_names.specs.Point.{Point, OnSide}
 use Rattle.sight_names.specs.Map.{Map, MapLine, line_at}
 use Rattle.sight_names.specs.Path.{OnNoLine, Touches, Leads}
-use Rattle.sight_names.specs.Points.{Edge, points_of, place, number_of, reverse_of}
+use Rattle.sight_names.specs.Points.{Edge, points_of, place, point_number, reverse_of}
 use Rattle.sight_names.specs.Sound.{IsOutside}
 use Rattle.sight_names.specs.Mesh.{IsTriangle, HasEdge, InsideTriangle, IsLineEdge, side_edge, triangle_at}
 use Rattle.sight_names.proofs.Laws.{same_point_refl}
@@ -23,7 +23,7 @@ use Rattle.mesh_base.proofs.Joined.{Strict, CleanAll, whole, tri, inside_free, j
 use Rattle.mesh_shape.proofs.RuleLemmas.{edge_cases, no_first}
 use Rattle.face_groups.specs.declared.tri_sectors.faces.Walls.{Walls}
 use Rattle.face_groups.specs.TriSectors.Classes.{class_of}
-use Rattle.face_groups.specs.TriSectors.Faces.{edge_pq, edge_qr, edge_rp, IsFreeEdge, IsLink, HasGap, IsRow, AreLinked}
+use Rattle.face_groups.specs.TriSectors.Faces.{edge_pq, edge_qr, edge_rp, IsFreeEdge, IsLink, HasGap, IsRowOfLinks, AreLinked}
 use Rattle.mesh_shape.specs.Fills.{HasLeft, HasTriangle}
 use Rattle.face_groups.proofs.TriSectors.PlainFaces.{plain_turn, clean_of}
 use Rattle.face_groups.proofs.TriSectors.FaceRegion.{Ground, GapOn, numbers, on_face, only_one}
@@ -64,8 +64,8 @@ no_line m facts e hf ht none i l is s = elim s as (λ _. ⊥) [
   | inr w ↦ none (i, l, false, is, same_edge e (side_edge m l false) (number e.from l.second hf w.0) (number e.to l.first ht w.1))
 ]
   where
-    number : (k : ℕ) (p : Pt) → k < length (points_of m) → whole (place m k) ≡ whole p → k ≡ number_of m p
-    number k p h s = sym (facts.number k h) ∙ ap (number_of m) (pt_of_vec (place m k) p s)
+    number : (k : ℕ) (p : Pt) → k < length (points_of m) → whole (place m k) ≡ whole p → k ≡ point_number m p
+    number k p h s = sym (facts.number k h) ∙ ap (point_number m) (pt_of_vec (place m k) p s)
 
 module _ (m : Map) (ts : List Triangle) (ws : List Walls) (fs : List ℕ) (d : Ground m ts ws fs) where
   pub clean_at : (k : ℕ) (t : Triangle) (g : Tri) → slice_get ts k ≡ Some t → In g (sides (tri_of m t)) → CleanAll m g
@@ -114,7 +114,7 @@ module _ (m : Map) (ts : List Triangle) (ws : List Walls) (fs : List ℕ) (d : G
   pub stays : (k : ℕ) (t : Triangle) → slice_get ts k ≡ Some t → Leads m (centre_of m t) (centre_of m t)
   stays k t at = ([], (centre_free k t at, same_point_refl (centre_of m t)))
 
-  row_leads : (k : ℕ) (is : List ℕ) (j : ℕ) (t u : Triangle) → slice_get ts k ≡ Some t → slice_get ts j ≡ Some u → IsRow ts ws k is j → Leads m (centre_of m t) (centre_of m u)
+  row_leads : (k : ℕ) (is : List ℕ) (j : ℕ) (t u : Triangle) → slice_get ts k ≡ Some t → slice_get ts j ≡ Some u → IsRowOfLinks ts ws k is j → Leads m (centre_of m t) (centre_of m u)
   row_leads k [] j t u at at_too e = subst (λ (x : Triangle). Leads m (centre_of m t) (centre_of m x)) (same_Some t u (sym at ∙ ap (slice_get ts) e ∙ at_too)) (stays k t at)
   row_leads k (i ∷ is) j t u at at_too (inl link, row) =
       let v = found_at ts (reverse_of link.e) i link.behind in
@@ -151,8 +151,8 @@ module _ (m : Map) (ts : List Triangle) (ws : List Walls) (fs : List ℕ) (d : G
   on_side_of l false q h = let e = turn_at_is l.first l.second q in let s = det-swap (whole l.first) (whole l.second) (vec q) in omega (arith, ints)
 
   side_middle : (i : ℕ) (l : MapLine) (left : Bool) → line_at m i ≡ Some l → middle (place m (side_edge m l left).from) (place m (side_edge m l left).to) ≡ middle l.first l.second
-  side_middle i l true is = ap (λ (x : Pt). middle x (place m (number_of m l.second))) (d.facts.first i l is).0 ∙ ap (middle l.first) (d.facts.second i l is).0
-  side_middle i l false is = ap (λ (x : Pt). middle x (place m (number_of m l.first))) (d.facts.second i l is).0 ∙ ap (middle l.second) (d.facts.first i l is).0 ∙ middle_turned l.first l.second
+  side_middle i l true is = ap (λ (x : Pt). middle x (place m (point_number m l.second))) (d.facts.first i l is).0 ∙ ap (middle l.first) (d.facts.second i l is).0
+  side_middle i l false is = ap (λ (x : Pt). middle x (place m (point_number m l.first))) (d.facts.second i l is).0 ∙ ap (middle l.second) (d.facts.first i l is).0 ∙ middle_turned l.first l.second
 
   on_the_side : (i : ℕ) (l : MapLine) (left : Bool) (q : Point) → line_at m i ≡ Some l → pos 0 <ℤ det (pv m (side_edge m l left).from) (pv m (side_edge m l left).to) (vec q) → OnSide l.first l.second left q
   on_the_side i l left q is h = on_side_of l left q (subst (λ (x : V). pos 0 <ℤ det x (side_to l left) (vec q)) (from_is m d.facts i l left is) (subst (λ (x : V). pos 0 <ℤ det (pv m (side_edge m l left).from) x (vec q)) (to_is m d.facts i l left is) h))

@@ -5,65 +5,65 @@ use Rattle.std.proofs.lemmas.Grind.{same_number_lists}
 use Rattle.std.proofs.lemmas.List.FromFn.{get_or-map-range_with_len, length-map-range_with_len}
 use Rattle.math_base.proofs.Numbers.{same_or_not, same_or_below, below_or_last}
 use Rattle.face_groups.specs.TriSectors.Classes.{class_of, renamed, AreLeast, AreSingles, AreRenamed}
-use Rattle.face_groups.specs.TriSectors.Forest.{IsForest, above, root_of, classes_in}
+use Rattle.face_groups.specs.TriSectors.Forest.{IsForest, number_above, forest_root, classes_in}
 
 -- ---- ways up
 
-above_root : (ps : List ℕ) (n k : ℕ) → class_of ps k ≡ k → above ps n k ≡ k
+above_root : (ps : List ℕ) (n k : ℕ) → class_of ps k ≡ k → number_above ps n k ≡ k
 above_root ps zero k e = refl
-above_root ps (suc n) k e = ap (above ps n) e ∙ above_root ps n k e
+above_root ps (suc n) k e = ap (number_above ps n) e ∙ above_root ps n k e
 
 -- so many steps suffice from a number that is no greater
 pub record IsAtRoot (ps : List ℕ) (k r : ℕ) : Type 0 where
   pub below : r ≤ k
   pub root : class_of ps r ≡ r
 
-arrives : (ps : List ℕ) → IsForest ps → (n k : ℕ) → k < length ps → k ≤ n → IsAtRoot ps k (above ps n k)
+arrives : (ps : List ℕ) → IsForest ps → (n k : ℕ) → k < length ps → k ≤ n → IsAtRoot ps k (number_above ps n k)
 arrives ps is zero k lt le = let b = is k lt in let e : k ≡ 0 = omega (arith, le) in record { below = omega arith; root = omega (arith, b, e) }
-arrives ps is (suc n) k lt le = let b = is k lt in elim (same_or_below (class_of ps k) k b) as (λ _. IsAtRoot ps k (above ps n (class_of ps k))) [
-  | inl same ↦ subst (IsAtRoot ps k) (sym (ap (above ps n) same ∙ above_root ps n k same)) (record { below = omega arith; root = same })
+arrives ps is (suc n) k lt le = let b = is k lt in elim (same_or_below (class_of ps k) k b) as (λ _. IsAtRoot ps k (number_above ps n (class_of ps k))) [
+  | inl same ↦ subst (IsAtRoot ps k) (sym (ap (number_above ps n) same ∙ above_root ps n k same)) (record { below = omega arith; root = same })
   | inr less ↦ let h = arrives ps is n (class_of ps k) (omega (arith, less, lt)) (omega (arith, less, le)) in let hb = h.below in record { below = omega (arith, hb, b); root = h.root }
 ]
 
-pub at_root : (ps : List ℕ) → IsForest ps → (k : ℕ) → k < length ps → IsAtRoot ps k (root_of ps k)
+pub at_root : (ps : List ℕ) → IsForest ps → (k : ℕ) → k < length ps → IsAtRoot ps k (forest_root ps k)
 at_root ps is k lt = arrives ps is (length ps) k lt (omega (arith, lt))
 
 -- what does not change from a number to its parent, and is the number at a root, is its root
-names : (ps : List ℕ) → IsForest ps → (f : ℕ → ℕ) → ((k : ℕ) → k < length ps → f (class_of ps k) ≡ f k) → ((k : ℕ) → k < length ps → class_of ps k ≡ k → f k ≡ k) → (k : ℕ) → k < length ps → root_of ps k ≡ f k
+names : (ps : List ℕ) → IsForest ps → (f : ℕ → ℕ) → ((k : ℕ) → k < length ps → f (class_of ps k) ≡ f k) → ((k : ℕ) → k < length ps → class_of ps k ≡ k → f k ≡ k) → (k : ℕ) → k < length ps → forest_root ps k ≡ f k
 names ps is f step own k lt =
     let r = at_root ps is k lt in let b = r.below in
-    sym (own (root_of ps k) (omega (arith, b, lt)) r.root) ∙ up (length ps) k lt
+    sym (own (forest_root ps k) (omega (arith, b, lt)) r.root) ∙ up (length ps) k lt
   where
-    up : (n k : ℕ) → k < length ps → f (above ps n k) ≡ f k
+    up : (n k : ℕ) → k < length ps → f (number_above ps n k) ≡ f k
     up zero k lt = refl
     up (suc n) k lt = let b = is k lt in up n (class_of ps k) (omega (arith, b, lt)) ∙ step k lt
 
-root_of_root : (ps : List ℕ) (k : ℕ) → class_of ps k ≡ k → root_of ps k ≡ k
+root_of_root : (ps : List ℕ) (k : ℕ) → class_of ps k ≡ k → forest_root ps k ≡ k
 root_of_root ps k e = above_root ps (length ps) k e
 
-last_step : (ps : List ℕ) (n k : ℕ) → above ps (suc n) k ≡ class_of ps (above ps n k)
+last_step : (ps : List ℕ) (n k : ℕ) → number_above ps (suc n) k ≡ class_of ps (number_above ps n k)
 last_step ps zero k = refl
 last_step ps (suc n) k = last_step ps n (class_of ps k)
 
-pub root_of_parent : (ps : List ℕ) → IsForest ps → (k : ℕ) → k < length ps → root_of ps (class_of ps k) ≡ root_of ps k
+pub root_of_parent : (ps : List ℕ) → IsForest ps → (k : ℕ) → k < length ps → forest_root ps (class_of ps k) ≡ forest_root ps k
 root_of_parent ps is k lt = last_step ps (length ps) k ∙ (at_root ps is k lt).root
 
 -- ---- the list of classes
 
 pub classes_many : (ps : List ℕ) → length (classes_in ps) ≡ length ps
-classes_many ps = length-map-range_with_len (root_of ps) 0 (length ps)
+classes_many ps = length-map-range_with_len (forest_root ps) 0 (length ps)
 
-pub class_is_root : (ps : List ℕ) (k : ℕ) → k < length ps → class_of (classes_in ps) k ≡ root_of ps k
-class_is_root ps k lt = get_or-map-range_with_len (root_of ps) 0 (length ps) k k 0 lt (omega arith)
+pub class_is_root : (ps : List ℕ) (k : ℕ) → k < length ps → class_of (classes_in ps) k ≡ forest_root ps k
+class_is_root ps k lt = get_or-map-range_with_len (forest_root ps) 0 (length ps) k k 0 lt (omega arith)
 
 pub forest_named : (ps : List ℕ) → IsForest ps → AreLeast (classes_in ps)
 forest_named ps is = record {
   least = λ k h. let len = classes_many ps in let lt : k < length ps = omega (arith, h, len) in let e = class_is_root ps k lt in let b = (at_root ps is k lt).below in omega (arith, e, b);
   own = λ k h. let len = classes_many ps in let lt : k < length ps = omega (arith, h, len) in let e = class_is_root ps k lt in let r = at_root ps is k lt in let b = r.below in
-      ap (class_of (classes_in ps)) e ∙ class_is_root ps (root_of ps k) (omega (arith, b, lt)) ∙ root_of_root ps (root_of ps k) r.root ∙ sym e;
+      ap (class_of (classes_in ps)) e ∙ class_is_root ps (forest_root ps k) (omega (arith, b, lt)) ∙ root_of_root ps (forest_root ps k) r.root ∙ sym e;
 }
 
-same_classes : (ps qs : List ℕ) → length qs ≡ length ps → ((k : ℕ) → k < length ps → root_of qs k ≡ root_of ps k) → classes_in qs ≡ classes_in ps
+same_classes : (ps qs : List ℕ) → length qs ≡ length ps → ((k : ℕ) → k < length ps → forest_root qs k ≡ forest_root ps k) → classes_in qs ≡ classes_in ps
 same_classes ps qs len h = same_number_lists (classes_in qs) (classes_in ps) (classes_many qs ∙ len ∙ sym (classes_many ps))
     (λ k lt. let m = classes_many qs in let l : k < length ps = omega (arith, lt, m, len) in class_is_root qs k (omega (arith, l, len)) ∙ h k l ∙ sym (class_is_root ps k l))
 
@@ -82,7 +82,7 @@ hung_is_forest ps is k p le j h =
 hung_roots : (ps : List ℕ) → IsForest ps → (k p : ℕ) → k < length ps → p ≤ k → (f : ℕ → ℕ)
     → ((j : ℕ) → j < length ps → j ≢ k → f (class_of ps j) ≡ f j) → f p ≡ f k
     → ((j : ℕ) → j < length ps → j ≢ k → class_of ps j ≡ j → f j ≡ j) → (p ≡ k → f k ≡ k)
-    → (j : ℕ) → j < length ps → root_of (set ps k p) j ≡ f j
+    → (j : ℕ) → j < length ps → forest_root (set ps k p) j ≡ f j
 hung_roots ps is k p hk le f step step_k own own_k j lt =
     let len = length-set ps k p in names (set ps k p) (hung_is_forest ps is k p le) f
     (λ i h. let hi : i < length ps = omega (arith, h, len) in elim (same_or_not i k) as (λ _. f (class_of (set ps k p) i) ≡ f i) [
@@ -106,9 +106,9 @@ shortened ps is k p q lt ep eq =
     let c0 = is p hp in let c : q ≤ p = omega (arith, c0, eq) in
     let le : q ≤ k = omega (arith, b, c) in (
       hung_is_forest ps is k q le,
-      same_classes ps (set ps k q) (length-set ps k q) (hung_roots ps is k q lt le (root_of ps)
+      same_classes ps (set ps k q) (length-set ps k q) (hung_roots ps is k q lt le (forest_root ps)
           (λ j h other. root_of_parent ps is j h)
-          (ap (root_of ps) eq ∙ root_of_parent ps is p hp ∙ ap (root_of ps) ep ∙ root_of_parent ps is k lt)
+          (ap (forest_root ps) eq ∙ root_of_parent ps is p hp ∙ ap (forest_root ps) ep ∙ root_of_parent ps is k lt)
           (λ j h other e. root_of_root ps j e)
           (λ e. root_of_root ps k (sym ep ∙ (let f : p ≡ k = omega (arith, b, c, e) in f)))),
       c,
@@ -121,7 +121,7 @@ hung ps is k p lt less ek ep = record {
   len = classes_many (set ps k p) ∙ length-set ps k p ∙ sym (classes_many ps);
   each = λ j h. let m = classes_many ps in let hj : j < length ps = omega (arith, h, m) in let l = length-set ps k p in
       class_is_root (set ps k p) j (omega (arith, hj, l))
-      ∙ hung_roots ps is k p lt (omega (arith, less)) (λ i. renamed k p (root_of ps i))
+      ∙ hung_roots ps is k p lt (omega (arith, less)) (λ i. renamed k p (forest_root ps i))
       (λ i hi other. ap (renamed k p) (root_of_parent ps is i hi))
       (ap (renamed k p) rp ∙ kept p (omega (arith, less)) ∙ sym from_is ∙ ap (renamed k p) (sym rk))
       (λ i hi other e. ap (renamed k p) (root_of_root ps i e) ∙ kept i other)
@@ -130,10 +130,10 @@ hung ps is k p lt less ek ep = record {
       ∙ ap (renamed k p) (sym (class_is_root ps j hj));
 }
   where
-    rk : root_of ps k ≡ k
+    rk : forest_root ps k ≡ k
     rk = sym (class_is_root ps k lt) ∙ ek
 
-    rp : root_of ps p ≡ p
+    rp : forest_root ps p ≡ p
     rp = sym (class_is_root ps p (omega (arith, lt, less))) ∙ ep
 
     kept : (i : ℕ) → i ≢ k → renamed k p i ≡ i
@@ -158,7 +158,7 @@ singles_alone n ps s = record {
 -- those before n have their names, the others their parents
 pub record AreNamedBefore (ps : List ℕ) (n : ℕ) (qs : List ℕ) : Type 0 where
   pub len : length qs ≡ length ps
-  pub named : (k : ℕ) → k < n → k < length ps → class_of qs k ≡ root_of ps k
+  pub named : (k : ℕ) → k < n → k < length ps → class_of qs k ≡ forest_root ps k
   pub rest : (k : ℕ) → n ≤ k → class_of qs k ≡ class_of ps k
 
 pub none_is_named : (ps : List ℕ) → AreNamedBefore ps 0 ps
@@ -168,9 +168,9 @@ pub named_more : (ps : List ℕ) → IsForest ps → (n p q : ℕ) (qs : List �
 named_more ps is n p q qs lt ep eq h =
     let len = h.len in record {
       len = length-set qs n q ∙ len;
-      named = λ k less hk. elim (below_or_last k n less) as (λ _. class_of (set qs n q) k ≡ root_of ps k) [
+      named = λ k less hk. elim (below_or_last k n less) as (λ _. class_of (set qs n q) k ≡ forest_root ps k) [
         | inl l ↦ get_or-set_other qs n k q 0 (omega (arith, l)) ∙ h.named k l hk
-        | inr same ↦ ap (class_of (set qs n q)) same ∙ get_or-set_same qs n q 0 (omega (arith, lt, len)) ∙ name ∙ ap (root_of ps) (sym same)
+        | inr same ↦ ap (class_of (set qs n q)) same ∙ get_or-set_same qs n q 0 (omega (arith, lt, len)) ∙ name ∙ ap (forest_root ps) (sym same)
       ];
       rest = λ k le. get_or-set_other qs n k q 0 (omega (arith, le)) ∙ h.rest k (omega (arith, le));
     }
@@ -178,10 +178,10 @@ named_more ps is n p q qs lt ep eq h =
     parent : p ≡ class_of ps n
     parent = ep ∙ h.rest n (omega arith)
 
-    name : q ≡ root_of ps n
-    name = let b = is n lt in elim (same_or_below p n (omega (arith, b, parent))) as (λ _. q ≡ root_of ps n) [
+    name : q ≡ forest_root ps n
+    name = let b = is n lt in elim (same_or_below p n (omega (arith, b, parent))) as (λ _. q ≡ forest_root ps n) [
       | inl same ↦ eq ∙ ap (class_of qs) same ∙ sym ep ∙ same ∙ sym (root_of_root ps n (sym parent ∙ same))
-      | inr less ↦ eq ∙ h.named p less (omega (arith, less, lt)) ∙ ap (root_of ps) parent ∙ root_of_parent ps is n lt
+      | inr less ↦ eq ∙ h.named p less (omega (arith, less, lt)) ∙ ap (forest_root ps) parent ∙ root_of_parent ps is n lt
     ]
 
 pub all_named : (ps : List ℕ) (n : ℕ) (qs : List ℕ) → length ps ≤ n → AreNamedBefore ps n qs → qs ≡ classes_in ps

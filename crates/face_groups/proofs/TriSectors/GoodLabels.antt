@@ -15,9 +15,9 @@ use Rattle.mesh_shape.proofs.RuleLemmas.{edge_cases}
 use Rattle.face_groups.specs.declared.tri_sectors.faces.Walls.{Walls}
 use Rattle.face_groups.specs.declared.tri_sectors.sides.FacedSide.{FacedSide}
 use Rattle.face_groups.specs.TriSectors.Classes.{class_of}
-use Rattle.face_groups.specs.TriSectors.Faces.{IsWall, AreWalls, IsFreeEdge, IsLink, HasGap, AreFaces, AreOpen, AreMarkedFaces}
+use Rattle.face_groups.specs.TriSectors.Faces.{IsWallAt, AreWalls, IsFreeEdge, IsLink, HasGap, AreFaces, AreOpen, AreMarkedFaces}
 use Rattle.face_groups.specs.TriSectors.Sides.{IsSealedAt, IsFaced, AreFaced, AreAlike, AreLabelled, IsFirstMixed, IsMixedSearch}
-use Rattle.face_groups.specs.TriSectors.Labels.{AreFaceLabels, AreSealed, IsMixedPair, IsSidesVerdict, IsFacesVerdict}
+use Rattle.face_groups.specs.TriSectors.Labels.{AreFaceLabels, AreSealed, IsMixedPair, IsSidesVerdict, IsLabelsVerdict}
 use Rattle.face_groups.proofs.TriSectors.FaceLemmas.{any_walls}
 use Rattle.math_base.proofs.Numbers.{below_or_not, below_above_or_same}
 use Rattle.sight_names.proofs.Portals.{triangle_within}
@@ -27,7 +27,7 @@ use Rattle.sight_names.proofs.Portals.{triangle_within}
 abbrev pub walls_at : List Walls → ℕ → Walls
 walls_at ws k = slice_index_or ws k any_walls
 
-not_marked : (m : Map) (ts : List Triangle) (k : ℕ) (e : Edge) (b : Bool) → (IsTrue b → IsWall m ts k e) → ¬ IsLineEdge m e → b ≡ false
+not_marked : (m : Map) (ts : List Triangle) (k : ℕ) (e : Edge) (b : Bool) → (IsTrue b → IsWallAt m ts k e) → ¬ IsLineEdge m e → b ≡ false
 not_marked m ts k e true f n = absurd (n (f refl).0)
 not_marked m ts k e false f n = refl
 
@@ -167,19 +167,19 @@ mixed_answer ss o i j d e is h =
       second = ap (λ (x : FacedSide). x.side) (get_or_from_slice_get ss j f.second e f.at_too);
     }
 
-pub faces_answer : (m : Map) (ts : List Triangle) (fs : List ℕ) (os : List Bool) (ss seen : List FacedSide) (r : Result (List (Option ℕ)) LabelFault) → seen ≡ ss → ((s : Side) → IsSealedAt m ts fs os s) → AreFaced m ts fs ss → IsSidesVerdict fs seen r → IsFacesVerdict m ts fs os r
+pub faces_answer : (m : Map) (ts : List Triangle) (fs : List ℕ) (os : List Bool) (ss seen : List FacedSide) (r : Result (List (Option ℕ)) LabelFault) → seen ≡ ss → ((s : Side) → IsSealedAt m ts fs os s) → AreFaced m ts fs ss → IsSidesVerdict fs seen r → IsLabelsVerdict m ts fs os r
 faces_answer m ts fs os ss seen r same each faced v = go r (subst (λ (xs : List FacedSide). IsSidesVerdict fs xs r) same v)
   where
-    go : (r : Result (List (Option ℕ)) LabelFault) → IsSidesVerdict fs ss r → IsFacesVerdict m ts fs os r
+    go : (r : Result (List (Option ℕ)) LabelFault) → IsSidesVerdict fs ss r → IsLabelsVerdict m ts fs os r
     go (Ok ls) h = (ss, record { each = each; faced = faced }, h)
     go (Err (Open s)) h = absurd h
     go (Err (Mixed a b)) h = (ss, record { each = each; faced = faced }, h)
     go (Err (Memory _)) h = tt
 
-pub range_answer : (p : PlanParts) → IsPlan p → (ts : List Triangle) (fs : List ℕ) (os : List Bool) (r : Result (List (Option ℕ)) LabelFault) → IsFacesVerdict (map_of p) ts fs os r → IfOk r (λ l. (k a : ℕ) → label_of l k ≡ Some a → a < p.sectors)
+pub range_answer : (p : PlanParts) → IsPlan p → (ts : List Triangle) (fs : List ℕ) (os : List Bool) (r : Result (List (Option ℕ)) LabelFault) → IsLabelsVerdict (map_of p) ts fs os r → IfOk r (λ l. (k a : ℕ) → label_of l k ≡ Some a → a < p.sectors)
 range_answer p is ts fs os (Ok ls) v = λ k a label. labels_in_range (map_of p) ts fs v.0 ls (plan_is_map p is) v.1.faced v.2 k a label
 range_answer p is ts fs os (Err e) v = tt
 
-pub good_answer : (m : Map) (ts : List Triangle) (fs : List ℕ) (os : List Bool) (r : Result (List (Option ℕ)) LabelFault) → AreMarkedFaces m ts fs os → IsFacesVerdict m ts fs os r → IsPlainMesh m ts → IfOk r (IsGoodMesh m ts)
+pub good_answer : (m : Map) (ts : List Triangle) (fs : List ℕ) (os : List Bool) (r : Result (List (Option ℕ)) LabelFault) → AreMarkedFaces m ts fs os → IsLabelsVerdict m ts fs os r → IsPlainMesh m ts → IfOk r (IsGoodMesh m ts)
 good_answer m ts fs os (Ok ls) g v plain = good_mesh m ts fs os v.0 ls plain g v.1 v.2
 good_answer m ts fs os (Err e) g v plain = tt

@@ -18,7 +18,7 @@ use Rattle.face_groups.specs.declared.tri_sectors.sides.FacedSide.{FacedSide}
 use Rattle.face_groups.specs.TriSectors.Classes.{class_of}
 use Rattle.face_groups.specs.TriSectors.Faces.{AreMarkedFaces}
 use Rattle.face_groups.specs.TriSectors.Sides.{IsSealedAt, IsFirstMixed}
-use Rattle.face_groups.specs.TriSectors.Labels.{AreFaceLabels, AreSealed, IsMixedPair, IsFacesVerdict}
+use Rattle.face_groups.specs.TriSectors.Labels.{AreFaceLabels, AreSealed, IsMixedPair, IsLabelsVerdict}
 use Rattle.mesh_shape.specs.Fills.{FillsSides}
 use Rattle.face_groups.specs.TriSectors.Verdict.{IsClosedSide, AgreeAt, IsFirstSidePairAgainst, AreFoundLabels, IsLabelVerdict}
 use Rattle.face_groups.proofs.TriSectors.GoodLabels.{good_mesh, named_side, side_label, label_name}
@@ -221,7 +221,7 @@ module _ (m : Map) (ts : List Triangle) (fs : List ℕ) (os : List Bool) (facts 
 
   -- ---- the verdict
 
-  pub verdict : (r : Result (List (Option ℕ)) LabelFault) → IsFacesVerdict m ts fs os r → IsLabelVerdict m ts r
+  pub verdict : (r : Result (List (Option ℕ)) LabelFault) → IsLabelsVerdict m ts fs os r → IsLabelVerdict m ts r
   verdict (Ok ls) v = found_labels v.0 v.1 ls v.2
   verdict (Err (Open s)) v = first_open_side s v
   verdict (Err (Mixed x y)) v = (closed_map v.1.each, mixed_pair v.0 v.1 x y v.2)

@@ -7,7 +7,7 @@ use Rattle.sight_names.specs.declared.names.Pt.{Pt}
 use Rattle.sight_names.specs.declared.names.Triangle.{Triangle}
 use Rattle.sight_names.specs.Point.{Point, point_of, SamePoint}
 use Rattle.sight_names.specs.Map.{Map, MapLine, line_at}
-use Rattle.sight_names.specs.Points.{Edge, points_of, place, number_of}
+use Rattle.sight_names.specs.Points.{Edge, points_of, place, point_number}
 use Rattle.sight_names.specs.Sound.{MeetAtEnds}
 use Rattle.sight_names.specs.Mesh.{IsPlainMesh}
 use Rattle.plane_base.proofs.Vec.{V, Lin, at, IsComb, On, value, det-cycle}
@@ -151,8 +151,8 @@ clean_of m f ts ls plain a g x i l is =
       ab = fair_side m f ts ls plain a g x i l is;
       bc = fair_side m f ts ls plain a (turned g) x1 i l is;
       ca = fair_side m f ts ls plain a (turned (turned g)) x2 i l is;
-      first = not_inside m ts ls plain a g x (number_of m l.first) p.1 (vec (point_of l.first)) (place_vec _ _ p.0);
-      second = not_inside m ts ls plain a g x (number_of m l.second) q.1 (vec (point_of l.second)) (place_vec _ _ q.0);
+      first = not_inside m ts ls plain a g x (point_number m l.first) p.1 (vec (point_of l.first)) (place_vec _ _ p.0);
+      second = not_inside m ts ls plain a g x (point_number m l.second) q.1 (vec (point_of l.second)) (place_vec _ _ q.0);
       uv = ap0.0;
       vu = ap0.1;
     }

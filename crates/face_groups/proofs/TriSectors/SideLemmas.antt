@@ -15,7 +15,7 @@ use Rattle.mesh_shape.specs.Faults.{IsSideBefore}
 use Rattle.mesh_shape.proofs.RuleLemmas.{plan_line_at, no_line_there}
 use Rattle.face_groups.specs.declared.tri_sectors.sides.FacedSide.{FacedSide}
 use Rattle.face_groups.specs.TriSectors.Classes.{IsBelow, class_of}
-use Rattle.face_groups.specs.TriSectors.Sides.{IsSealedEdge, IsSealedSide, IsSealedAt, IsFirstOfLine, IsOpenLine, IsFaced, AreFacedOf, AreFaced, AreAdded, IsAdded, AreAlike, IsFacedBelow}
+use Rattle.face_groups.specs.TriSectors.Sides.{IsSealedEdge, IsSealedSide, IsSealedAt, IsFirstOfLine, IsOpenLine, IsFaced, AreFacedOf, AreFaced, AreSidesAdded, IsSideAdded, AreAlike, IsFacedBelow}
 use Rattle.math_base.proofs.Lists.{get_pushed, get_before_pushed, pushed_at}
 use Rattle.math_base.proofs.Numbers.{below_or_last}
 use Rattle.sight_names.proofs.Portals.{triangle_within}
@@ -117,7 +117,7 @@ added_some D E m ts fs ss f0 is d0 f g order h = record {
 -- one side of a plan's line
 one_added : (D E : Side → Type 0) (p : PlanParts) → IsPlan p → (ts : List Triangle) (fs : List ℕ) (old new : List FacedSide) (n : ℕ) (l : Line) (left : Bool) → slice_get p.lines n ≡ Some (Some l) → E (record { line = n; left = left })
     → ((s : Side) → D s → E s) → ((s : Side) → E s → D s ⊎ (s ≡ record { line = n; left = left })) → ((s : Side) → D s → IsSideBefore s (record { line = n; left = left }))
-    → IsAdded ts fs (edge_of_side l left) (record { line = n; left = left }) (name_of_side l left) old new → AreFacedOf D (map_of p) ts fs old → AreFacedOf E (map_of p) ts fs new
+    → IsSideAdded ts fs (edge_of_side l left) (record { line = n; left = left }) (name_of_side l left) old new → AreFacedOf D (map_of p) ts fs old → AreFacedOf E (map_of p) ts fs new
 one_added D E p is ts fs old new n l left e d0 f g order added h = go (triangle_at ts (edge_of_side l left)) refl added
   where
     go : (o : Option ℕ) → triangle_at ts (edge_of_side l left) ≡ o → MatchOption o (new ≡ old) (λ k. new ≡ old ++ record { side = record { line = n; left = left }; face = class_of fs k; sector = name_of_side l left } ∷ []) → AreFacedOf E (map_of p) ts fs new
@@ -137,7 +137,7 @@ left_or_right : (b : Bool) → (b ≡ false) ⊎ (b ≡ true)
 left_or_right false = inl refl
 left_or_right true = inr refl
 
-pub line_added : (p : PlanParts) → IsPlan p → (ts : List Triangle) (fs : List ℕ) (old new : List FacedSide) (n : ℕ) (l : Line) → slice_get p.lines n ≡ Some (Some l) → AreAdded ts fs n l old new
+pub line_added : (p : PlanParts) → IsPlan p → (ts : List Triangle) (fs : List ℕ) (old new : List FacedSide) (n : ℕ) (l : Line) → slice_get p.lines n ≡ Some (Some l) → AreSidesAdded ts fs n l old new
     → AreFacedOf (λ s. s.line < n) (map_of p) ts fs old → AreFacedOf (λ s. s.line < n + 1) (map_of p) ts fs new
 line_added p is ts fs old new n l e added h =
     one_added (λ s. (s.line < n) ⊎ ((s.line ≡ n) × (s.left ≡ false))) (λ s. s.line < n + 1) p is ts fs added.middle new n l true e (omega arith)

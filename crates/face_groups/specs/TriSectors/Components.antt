@@ -12,7 +12,7 @@ pub record AreComponents (m : Map) (cs : List ℕ) : Type 0 where
   pub least : (a b c : ℕ) → slice_get cs a ≡ Some b → AreConnected m a c → b ≤ c
 
 -- the line is passable, and its sides name the two sectors
-pub record IsDoor (l : Line) (a b : ℕ) : Type 0 where
+pub record IsPassableBetween (l : Line) (a b : ℕ) : Type 0 where
   pub passable : IsFalse l.solid
   pub right : l.right ≡ Some a
   pub left : l.left ≡ Some b
@@ -22,6 +22,6 @@ pub record Connects (l : Line) (old new : List ℕ) : Type 0 where
   pub len : length new ≡ length old
   pub named : AreLeast new
   pub keeps : (k j : ℕ) → k < length old → j < length old → class_of old k ≡ class_of old j → class_of new k ≡ class_of new j
-  pub joins : (a b : ℕ) → IsDoor l a b → class_of new a ≡ class_of new b
+  pub joins : (a b : ℕ) → IsPassableBetween l a b → class_of new a ≡ class_of new b
   pub only : (k j : ℕ) → k < length old → j < length old → class_of new k ≡ class_of new j
-      → (class_of old k ≡ class_of old j) ⊎ ((a b : ℕ) × IsDoor l a b × WillBeOne old a b k j)
+      → (class_of old k ≡ class_of old j) ⊎ ((a b : ℕ) × IsPassableBetween l a b × WillBeOne old a b k j)

@@ -25,16 +25,16 @@ pub record HasMarks (W : Edge → Type 0) (t : Triangle) (w : Walls) : Type 0 wh
   pub qr : IsTrue w.qr ↔ W (edge_qr t)
   pub rp : IsTrue w.rp ↔ W (edge_rp t)
 
-pub record AreMarked (W : ℕ → Edge → Type 0) (ts : List Triangle) (ws : List Walls) : Type 0 where
+pub record AreWallsMarked (W : ℕ → Edge → Type 0) (ts : List Triangle) (ws : List Walls) : Type 0 where
   pub one_each : length ws ≡ length ts
   pub each : (k : ℕ) (t : Triangle) (d : Walls) → slice_get ts k ≡ Some t → HasMarks (W k) t (slice_index_or ws k d)
 
 -- the edge is a line, and the triangle at k is the first that has it
-abbrev pub IsWall : Map → List Triangle → ℕ → Edge → Type 0
-IsWall m ts k e = IsLineEdge m e × (triangle_at ts e ≡ Some k)
+abbrev pub IsWallAt : Map → List Triangle → ℕ → Edge → Type 0
+IsWallAt m ts k e = IsLineEdge m e × (triangle_at ts e ≡ Some k)
 
 abbrev pub AreWalls : Map → List Triangle → List Walls → Type 0
-AreWalls m ts ws = AreMarked (IsWall m ts) ts ws
+AreWalls m ts ws = AreWallsMarked (IsWallAt m ts) ts ws
 
 -- the same of the first n lines
 abbrev pub IsWallBefore : Map → List Triangle → ℕ → ℕ → Edge → Type 0
@@ -55,7 +55,7 @@ pub record IsPutAt (ts : List Triangle) (e : Edge) (k : ℕ) (t : Triangle) (old
   pub qr : IsTrue new.qr ↔ IsPutHere ts e k old.qr (edge_qr t)
   pub rp : IsTrue new.rp ↔ IsPutHere ts e k old.rp (edge_rp t)
 
-pub record IsPut (ts : List Triangle) (e : Edge) (old new : List Walls) : Type 0 where
+pub record IsWallPut (ts : List Triangle) (e : Edge) (old new : List Walls) : Type 0 where
   pub len : length new ≡ length old
   pub each : (k : ℕ) (t : Triangle) (d : Walls) → slice_get ts k ≡ Some t → IsPutAt ts e k t (slice_index_or old k d) (slice_index_or new k d)
 
@@ -92,12 +92,12 @@ pub record HasGap (ts : List Triangle) (ws : List Walls) (k : ℕ) : Type 0 wher
   pub behind : triangle_at ts (reverse_of e) ≡ None
 
 -- links lead from k to j, each in the one direction or the other
-abbrev pub IsRow : List Triangle → List Walls → ℕ → List ℕ → ℕ → Type 0
-IsRow ts ws k [] j = k ≡ j
-IsRow ts ws k (i ∷ is) j = (IsLink ts ws k i ⊎ IsLink ts ws i k) × IsRow ts ws i is j
+abbrev pub IsRowOfLinks : List Triangle → List Walls → ℕ → List ℕ → ℕ → Type 0
+IsRowOfLinks ts ws k [] j = k ≡ j
+IsRowOfLinks ts ws k (i ∷ is) j = (IsLink ts ws k i ⊎ IsLink ts ws i k) × IsRowOfLinks ts ws i is j
 
 abbrev pub AreLinked : List Triangle → List Walls → ℕ → ℕ → Type 0
-AreLinked ts ws k j = (is : List ℕ) × IsRow ts ws k is j
+AreLinked ts ws k j = (is : List ℕ) × IsRowOfLinks ts ws k is j
 
 -- the faces, each named by its least triangle
 pub record AreFaces (ts : List Triangle) (ws : List Walls) (fs : List ℕ) : Type 0 where
@@ -107,17 +107,17 @@ pub record AreFaces (ts : List Triangle) (ws : List Walls) (fs : List ℕ) : Typ
   pub only : (k j : ℕ) → k < length ts → j < length ts → class_of fs k ≡ class_of fs j → AreLinked ts ws k j
 
 -- the triangle at k and the one behind its edge are put together, if the edge isn't marked
-abbrev pub IsCrossed : List Triangle → Bool → ℕ → Edge → List ℕ → List ℕ → Type 0
-IsCrossed ts true k e old new = new ≡ old
-IsCrossed ts false k e old new = MatchOption (triangle_at ts (reverse_of e)) (new ≡ old) (λ j. AreMerged k j old new)
+abbrev pub JoinsAcross : List Triangle → Bool → ℕ → Edge → List ℕ → List ℕ → Type 0
+JoinsAcross ts true k e old new = new ≡ old
+JoinsAcross ts false k e old new = MatchOption (triangle_at ts (reverse_of e)) (new ≡ old) (λ j. AreMerged k j old new)
 
 -- the same of its three edges
 pub record AreCrossed (ts : List Triangle) (w : Walls) (k : ℕ) (t : Triangle) (old new : List ℕ) : Type 0 where
   pub after_pq : List ℕ
   pub after_qr : List ℕ
-  pub pq : IsCrossed ts w.pq k (edge_pq t) old after_pq
-  pub qr : IsCrossed ts w.qr k (edge_qr t) after_pq after_qr
-  pub rp : IsCrossed ts w.rp k (edge_rp t) after_qr new
+  pub pq : JoinsAcross ts w.pq k (edge_pq t) old after_pq
+  pub qr : JoinsAcross ts w.qr k (edge_qr t) after_pq after_qr
+  pub rp : JoinsAcross ts w.rp k (edge_rp t) after_qr new
 
 -- the face is open: one of its triangles has a gap
 pub record AreOpen (ts : List Triangle) (ws : List Walls) (fs : List ℕ) (os : List Bool) : Type 0 where

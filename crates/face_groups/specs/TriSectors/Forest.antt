@@ -8,14 +8,14 @@ abbrev pub IsForest : List ℕ → Type 0
 IsForest ps = (k : ℕ) → k < length ps → class_of ps k ≤ k
 
 -- the number so many steps above
-abbrev pub above : List ℕ → ℕ → ℕ → ℕ
-above ps zero k = k
-above ps (suc n) k = above ps n (class_of ps k)
+abbrev pub number_above : List ℕ → ℕ → ℕ → ℕ
+number_above ps zero k = k
+number_above ps (suc n) k = number_above ps n (class_of ps k)
 
 -- the root of a number's tree: no way up is longer than the numbers are many
-abbrev pub root_of : List ℕ → ℕ → ℕ
-root_of ps k = above ps (length ps) k
+abbrev pub forest_root : List ℕ → ℕ → ℕ
+forest_root ps k = number_above ps (length ps) k
 
 -- the class of each number
 abbrev pub classes_in : List ℕ → List ℕ
-classes_in ps = map (root_of ps) (range_with_len 0 (length ps))
+classes_in ps = map (forest_root ps) (range_with_len 0 (length ps))

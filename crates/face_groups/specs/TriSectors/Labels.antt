@@ -35,8 +35,8 @@ pub record AreSealed (m : Map) (ts : List Triangle) (fs : List ℕ) (os : List B
   pub each : (s : Side) → IsSealedAt m ts fs os s
   pub faced : AreFaced m ts fs ss
 
-abbrev pub IsFacesVerdict : Map → List Triangle → List ℕ → List Bool → Result (List (Option ℕ)) LabelFault → Type 0
-IsFacesVerdict m ts fs os (Ok ls) = (ss : List FacedSide) × AreSealed m ts fs os ss × AreFaceLabels fs ss ls
-IsFacesVerdict m ts fs os (Err (Open s)) = IsFirstSideAgainst (IsSealedAt m ts fs os) s
-IsFacesVerdict m ts fs os (Err (Mixed a b)) = (ss : List FacedSide) × AreSealed m ts fs os ss × IsMixedPair ss a b
-IsFacesVerdict m ts fs os (Err (Memory _)) = Unit {0}
+abbrev pub IsLabelsVerdict : Map → List Triangle → List ℕ → List Bool → Result (List (Option ℕ)) LabelFault → Type 0
+IsLabelsVerdict m ts fs os (Ok ls) = (ss : List FacedSide) × AreSealed m ts fs os ss × AreFaceLabels fs ss ls
+IsLabelsVerdict m ts fs os (Err (Open s)) = IsFirstSideAgainst (IsSealedAt m ts fs os) s
+IsLabelsVerdict m ts fs os (Err (Mixed a b)) = (ss : List FacedSide) × AreSealed m ts fs os ss × IsMixedPair ss a b
+IsLabelsVerdict m ts fs os (Err (Memory _)) = Unit {0}

@@ -58,14 +58,14 @@ abbrev pub AreFaced : Map → List Triangle → List ℕ → List FacedSide → 
 AreFaced m ts fs ss = AreFacedOf (λ s. Unit {0}) m ts fs ss
 
 -- one side is added behind the others, if it has a triangle
-abbrev pub IsAdded : List Triangle → List ℕ → Edge → Side → Option ℕ → List FacedSide → List FacedSide → Type 0
-IsAdded ts fs e s name old new = MatchOption (triangle_at ts e) (new ≡ old) (λ k. new ≡ old ++ record { side = s; face = class_of fs k; sector = name } ∷ [])
+abbrev pub IsSideAdded : List Triangle → List ℕ → Edge → Side → Option ℕ → List FacedSide → List FacedSide → Type 0
+IsSideAdded ts fs e s name old new = MatchOption (triangle_at ts e) (new ≡ old) (λ k. new ≡ old ++ record { side = s; face = class_of fs k; sector = name } ∷ [])
 
 -- both sides of the line are added, the right one first
-pub record AreAdded (ts : List Triangle) (fs : List ℕ) (i : ℕ) (l : Line) (old new : List FacedSide) : Type 0 where
+pub record AreSidesAdded (ts : List Triangle) (fs : List ℕ) (i : ℕ) (l : Line) (old new : List FacedSide) : Type 0 where
   pub middle : List FacedSide
-  pub right : IsAdded ts fs (record { from = l.b; to = l.a }) (record { line = i; left = false }) l.right old middle
-  pub left : IsAdded ts fs (record { from = l.a; to = l.b }) (record { line = i; left = true }) l.left middle new
+  pub right : IsSideAdded ts fs (record { from = l.b; to = l.a }) (record { line = i; left = false }) l.right old middle
+  pub left : IsSideAdded ts fs (record { from = l.a; to = l.b }) (record { line = i; left = true }) l.left middle new
 
 -- ---- sides on one face
 

@@ -4,7 +4,7 @@ ghost use Rattle.std.specs.Prelude.{◌≡◌, ◌<◌, ◌↔◌, ℕ, false, I
 ghost use Rattle.sight_names.specs.Map.{map_of};
 ghost use Rattle.sight_names.specs.Mesh.{triangle_at};
 ghost use Rattle.face_groups.specs.TriSectors.Classes.{AreSingles, IsBelow};
-ghost use Rattle.face_groups.specs.TriSectors.Faces.{AreMarked, AreWalls, IsPut, IsMarkedMore, AreFaces, AreCrossed, IsCrossed, AreOpen, HasGapHere};
+ghost use Rattle.face_groups.specs.TriSectors.Faces.{AreWallsMarked, AreWalls, IsWallPut, IsMarkedMore, AreFaces, AreCrossed, JoinsAcross, AreOpen, HasGapHere};
 ghost use Rattle.face_groups.specs.TriSectors.Forest.{classes_in, IsForest};
 
 use crate::tri_sectors::classes::{merge, name_all, singles};
@@ -37,7 +37,7 @@ pub fn walls_of(alloc: Global, plan: &Plan, mesh: &Mesh) -> Result<Vec<Walls>, M
 /// Marks all lines.
 fn mark_lines(plan: &Plan, mesh: &Mesh, walls: &mut [Walls])
     requires len { length walls.old ≡ length mesh.now.triangles }
-    requires none { AreMarked (λ k e. ⊥) mesh.now.triangles walls.old }
+    requires none { AreWallsMarked (λ k e. ⊥) mesh.now.triangles walls.old }
     ensures { AreWalls (map_of plan.now) mesh.now.triangles walls.new }
 {
     for line in plan.lines() {
@@ -51,7 +51,7 @@ fn mark_lines(plan: &Plan, mesh: &Mesh, walls: &mut [Walls])
 /// Marks the edge in the first triangle that has it.
 fn put_wall(mesh: &Mesh, walls: &mut [Walls], u: u16, v: u16)
     requires { length walls.old ≡ length mesh.now.triangles }
-    ensures { IsPut mesh.now.triangles (record { from = u; to = v }) walls.old walls.new }
+    ensures { IsWallPut mesh.now.triangles (record { from = u; to = v }) walls.old walls.new }
 {
     let Some(k) = mesh.triangle_at(u, v) else {
         return;
@@ -116,7 +116,7 @@ fn link_across(mesh: &Mesh, parents: &mut [u16], is_line: bool, k: u16, u: u16, 
     requires forest { IsForest parents.old }
     ensures len { length parents.new ≡ length parents.old }
     ensures forest { IsForest parents.new }
-    ensures crossed { IsCrossed mesh.now.triangles is_line k (record { from = u; to = v }) (classes_in parents.old) (classes_in parents.new) }
+    ensures crossed { JoinsAcross mesh.now.triangles is_line k (record { from = u; to = v }) (classes_in parents.old) (classes_in parents.new) }
 {
     if is_line {
         return;

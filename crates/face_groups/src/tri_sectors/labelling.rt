@@ -9,7 +9,7 @@ ghost use Rattle.face_groups.specs.TriSectors.Faces.{AreMarkedFaces};
 ghost use Rattle.face_groups.specs.TriSectors.Sides.{AreLabelled, IsFacedBelow};
 ghost use Rattle.mesh_shape.specs.Fills.{FillsSides};
 ghost use Rattle.face_groups.specs.TriSectors.Verdict.{IsLabelVerdict};
-ghost use Rattle.face_groups.specs.TriSectors.Labels.{IsSidesVerdict, IsFacesVerdict};
+ghost use Rattle.face_groups.specs.TriSectors.Labels.{IsSidesVerdict, IsLabelsVerdict};
 
 use crate::tri_sectors::faces::{faces_of, open_faces, walls_of};
 use crate::tri_sectors::sides::{FacedSide, faced_sides, first_mixed, first_open, names_of};
@@ -42,7 +42,7 @@ fn label_faces(
     requires marked { AreMarkedFaces (map_of plan.now) mesh.now.triangles faces.now marks.now }
     requires range { All (IsBelow (length mesh.now.triangles)) faces.now }
     ensures plan { IsPlan plan.now }
-    ensures verdict { IsFacesVerdict (map_of plan.now) mesh.now.triangles faces.now marks.now result }
+    ensures verdict { IsLabelsVerdict (map_of plan.now) mesh.now.triangles faces.now marks.now result }
 {
     if let Some(side) = first_open(plan, mesh, faces, marks) {
         return Err(LabelFault::Open { side });

@@ -5,7 +5,7 @@ ghost use Rattle.sight_names.specs.Map.{map_of};
 ghost use Rattle.sight_names.specs.Plan.{IsPlan};
 ghost use Rattle.mesh_shape.specs.Search.{IsSideSearch};
 ghost use Rattle.face_groups.specs.TriSectors.Classes.{IsBelow};
-ghost use Rattle.face_groups.specs.TriSectors.Sides.{IsSealedEdge, IsSealedSide, IsSealedAt, IsFirstOfLine, IsOpenLine, AreFaced, AreAdded, IsAdded, IsOtherFrom, IsMixedSearch, AreNames, IsFacedBelow};
+ghost use Rattle.face_groups.specs.TriSectors.Sides.{IsSealedEdge, IsSealedSide, IsSealedAt, IsFirstOfLine, IsOpenLine, AreFaced, AreSidesAdded, IsSideAdded, IsOtherFrom, IsMixedSearch, AreNames, IsFacedBelow};
 
 use mesh_shape::Mesh;
 use sight_names::{Line, Memory, Plan, Side};
@@ -131,7 +131,7 @@ fn add_sides(
     line: Line,
 ) -> Result<(), Memory>
     requires len { length faces.now ≡ length mesh.now.triangles }
-    ensures { OnOk result (AreAdded mesh.now.triangles faces.now i line sides.old.items sides.new.items) }
+    ensures { OnOk result (AreSidesAdded mesh.now.triangles faces.now i line sides.old.items sides.new.items) }
 {
     let right = Side {
         line: i,
@@ -156,7 +156,7 @@ fn add_side(
     v: u16,
 ) -> Result<(), Memory>
     requires len { length faces.now ≡ length mesh.now.triangles }
-    ensures { OnOk result (IsAdded mesh.now.triangles faces.now (record { from = u; to = v }) side sector sides.old.items sides.new.items) }
+    ensures { OnOk result (IsSideAdded mesh.now.triangles faces.now (record { from = u; to = v }) side sector sides.old.items sides.new.items) }
 {
     if let Some(k) = mesh.triangle_at(u, v) {
         sides.push(FacedSide {

@@ -22,7 +22,7 @@ use Rattle.math_base.proofs.Numbers.{tells_same, tells_other}
 use Rattle.math_base.proofs.Options.{some_is_same}
 use Rattle.gate_floods.specs.Gates.{IsGate}
 use Rattle.gate_floods.specs.declared.gate_masks.gate.Gate.{Gate}
-use Rattle.gate_floods.specs.GateMasks.Gates.{crossing_between, crossing_of, ends_of, portal_of, turned_pair, IsGateOf}
+use Rattle.gate_floods.specs.GateMasks.Gates.{crossing_between, crossing_of, ends_by_side, portal_of_gate, turned_pair, IsGateOf}
 
 -- ---- a gate of a map by its line
 
@@ -83,7 +83,7 @@ looked_up_side points l false = refl
 abbrev pub edge_of : Pair → Edge
 edge_of q = record { from = q.a; to = q.b }
 
-ends_edge : (p : PlanParts) → IsPlan p → (k : ℕ) (l : Line) (left : Bool) → slice_get p.lines k ≡ Some (Some l) → side_edge (map_of p) (looked_up p.points l) (not left) ≡ edge_of (ends_of l left)
+ends_edge : (p : PlanParts) → IsPlan p → (k : ℕ) (l : Line) (left : Bool) → slice_get p.lines k ≡ Some (Some l) → side_edge (map_of p) (looked_up p.points l) (not left) ≡ edge_of (ends_by_side l left)
 ends_edge p is k l false e = line_edge_of_plan p is k l e
 ends_edge p is k l true e = ap reverse_of (line_edge_of_plan p is k l e)
 
@@ -147,16 +147,16 @@ module _ (p : PlanParts) (is : IsPlan p) (s : Side) where
     pub line : Line
     pub entry : entry_of p s.line ≡ Some line
     pub crosses : crossing_of line s.left ≡ Some (record { a = e.near; b = e.far })
-    pub ends : ends_of line s.left ≡ record { a = e.left; b = e.right }
+    pub ends : ends_by_side line s.left ≡ record { a = e.left; b = e.right }
 
-  found_at : (e : Gate) (t : Side) → GateLine (map_of p) e.near e.far (portal_of e) t → t ≡ s → FoundAt e
+  found_at : (e : Gate) (t : Side) → GateLine (map_of p) e.near e.far (portal_of_gate e) t → t ≡ s → FoundAt e
   found_at e t g same =
-      let h : GateLine (map_of p) e.near e.far (portal_of e) s = subst (GateLine (map_of p) e.near e.far (portal_of e)) same g in
+      let h : GateLine (map_of p) e.near e.far (portal_of_gate e) s = subst (GateLine (map_of p) e.near e.far (portal_of_gate e)) same g in
       let k = line_of_plan p.points p.lines s.line h.line h.is in
       let solid : k.0.solid ≡ false = ap (λ (x : MapLine). x.solid) k.2 ∙ h.passable in
       let from : on_side k.0 s.left ≡ Some e.near = sym (looked_up_side p.points k.0 s.left) ∙ ap (λ (x : MapLine). sector_on x s.left) k.2 ∙ h.from in
       let to : on_side k.0 (not s.left) ≡ Some e.far = sym (looked_up_side p.points k.0 (not s.left)) ∙ ap (λ (x : MapLine). sector_on x (not s.left)) k.2 ∙ h.to in
-      let edge : edge_of (ends_of k.0 s.left) ≡ entry_edge (portal_of e) = sym (ends_edge p is s.line k.0 s.left k.1) ∙ ap (λ (x : MapLine). side_edge (map_of p) x (not s.left)) k.2 ∙ sym h.edge in
+      let edge : edge_of (ends_by_side k.0 s.left) ≡ entry_edge (portal_of_gate e) = sym (ends_edge p is s.line k.0 s.left k.1) ∙ ap (λ (x : MapLine). side_edge (map_of p) x (not s.left)) k.2 ∙ sym h.edge in
       record {
         line = k.0;
         entry = ap (option_and_then (λ (x : Option Line). x)) k.1;
@@ -165,9 +165,9 @@ module _ (p : PlanParts) (is : IsPlan p) (s : Side) where
       }
 
   pub gate_found : (e : Gate) → IsGateOf (map_of p) e → e.side ≡ s → FoundAt e
-  gate_found e g same = found_at e g.gate.side (line_of_gate (map_of p) e.near e.far (portal_of e) g.gate) (g.side ∙ same)
+  gate_found e g same = found_at e g.gate.side (line_of_gate (map_of p) e.near e.far (portal_of_gate e) g.gate) (g.side ∙ same)
 
-  pub gate_there : (l : Line) (q ends : Pair) (left_at right_at : Pt) → entry_of p s.line ≡ Some l → crossing_of l s.left ≡ Some q → ends ≡ ends_of l s.left → left_at ≡ place (map_of p) ends.a → right_at ≡ place (map_of p) ends.b
+  pub gate_there : (l : Line) (q ends : Pair) (left_at right_at : Pt) → entry_of p s.line ≡ Some l → crossing_of l s.left ≡ Some q → ends ≡ ends_by_side l s.left → left_at ≡ place (map_of p) ends.a → right_at ≡ place (map_of p) ends.b
       → IsGateOf (map_of p) (gate_by q ends left_at right_at)
   gate_there l q ends left_at right_at entry crossing ends_is left right =
       let at = entry_there (slice_get p.lines s.line) l entry in
@@ -192,7 +192,7 @@ module _ (p : PlanParts) (is : IsPlan p) (s : Side) where
       line_there l at = ap (option_and_then (λ (k : Option MapLine). k)) (slice_get-map (option_map (looked_up p.points)) p.lines s.line ∙ ap (option_map (option_map (looked_up p.points))) at)
 
   -- what holds of the gate that the code gives, and of no other
-  pub tells_gate : (l : Line) (q ends : Pair) (left_at right_at : Pt) → entry_of p s.line ≡ Some l → crossing_of l s.left ≡ Some q → ends ≡ ends_of l s.left → left_at ≡ place (map_of p) ends.a → right_at ≡ place (map_of p) ends.b
+  pub tells_gate : (l : Line) (q ends : Pair) (left_at right_at : Pt) → entry_of p s.line ≡ Some l → crossing_of l s.left ≡ Some q → ends ≡ ends_by_side l s.left → left_at ≡ place (map_of p) ends.a → right_at ≡ place (map_of p) ends.b
       → (e : Gate) → (Some (gate_by q ends left_at right_at) ≡ Some e) ↔ (IsGateOf (map_of p) e × (e.side ≡ s))
   tells_gate l q ends left_at right_at entry crossing ends_is left right e = (there, back)
     where
@@ -204,7 +204,7 @@ module _ (p : PlanParts) (is : IsPlan p) (s : Side) where
           let f = gate_found e g same in
           let line : l ≡ f.line = same_Some l f.line (sym entry ∙ f.entry) in
           let cross : q ≡ record { a = e.near; b = e.far } = same_Some q (record { a = e.near; b = e.far }) (sym crossing ∙ ap (λ (x : Line). crossing_of x s.left) line ∙ f.crosses) in
-          let both : ends ≡ record { a = e.left; b = e.right } = ends_is ∙ ap (λ (x : Line). ends_of x s.left) line ∙ f.ends in
+          let both : ends ≡ record { a = e.left; b = e.right } = ends_is ∙ ap (λ (x : Line). ends_by_side x s.left) line ∙ f.ends in
           let at_left : left_at ≡ e.left_at = left ∙ ap (λ (x : Pair). place (map_of p) x.a) both ∙ sym g.left_at in
           let at_right : right_at ≡ e.right_at = right ∙ ap (λ (x : Pair). place (map_of p) x.b) both ∙ sym g.right_at in
           let all : gate_by q ends left_at right_at ≡ e = λ i. record { near = (cross i).a; far = (cross i).b; side = sym same i; left = (both i).a; right = (both i).b; left_at = at_left i; right_at = at_right i } in

@@ -11,11 +11,11 @@ use Rattle.sight_names.proofs.PlanMap.{plan_is_map}
 use Rattle.sight_lift.proofs.Doors.{has_name, named_is, other_edge}
 use Rattle.math_base.proofs.Bools.{not_not}
 use Rattle.math_base.proofs.Options.{some_is_same}
-use Rattle.mesh_shape.specs.HalfEdges.HalfEdges.{portal_of}
+use Rattle.mesh_shape.specs.HalfEdges.HalfEdges.{portal_into}
 use Rattle.mesh_shape.specs.HalfEdges.Kinds.{IsEnteredAt}
 use Rattle.gate_floods.specs.Gates.{IsGate, other_side}
 use Rattle.gate_floods.specs.declared.gate_masks.masks.Row.{Row}
-use Rattle.gate_floods.specs.GateMasks.Masks.{AreMasks, IsLeftOut, IsMaskAt, mask_at}
+use Rattle.gate_floods.specs.GateMasks.Masks.{AreSideMasks, IsLeftOut, IsMaskAt, mask_of_side}
 use Rattle.gate_floods.specs.GateMasks.Behind.{IsMaskBehind, MasksAreFoundBehind}
 use Rattle.gate_floods.proofs.GateMasks.AtSide.{GateLine, gate_of_line, line_of_gate}
 
@@ -52,7 +52,7 @@ module _ (m : Map) (is_map : IsMap m) (ts : List Triangle) (ls : List (Option �
         differ = h.differ;
       }
 
-  module _ (Claims : ℕ → ℕ → Type 0) (masks : List (Option Row)) (are : AreMasks m Claims masks) (q : Portal) (s : Side) (l : MapLine) (at : line_at m s.line ≡ Some l) (passes : l.solid ≡ false) (edge : side_edge m l s.left ≡ entry_edge q) where
+  module _ (Claims : ℕ → ℕ → Type 0) (masks : List (Option Row)) (are : AreSideMasks m Claims masks) (q : Portal) (s : Side) (l : MapLine) (at : line_at m s.line ≡ Some l) (passes : l.solid ≡ false) (edge : side_edge m l s.left ≡ entry_edge q) where
     -- a gate at that side is this portal
     same_portal : (b d : ℕ) (r : Portal) → GateLine m b d r (other_side s) → r ≡ q
     same_portal b d r h =
@@ -70,6 +70,6 @@ module _ (m : Map) (is_map : IsMap m) (ts : List Triangle) (ls : List (Option �
 pub masks_behind : MasksAreFoundBehind
 masks_behind p ts labels xs joined masks e x is good are h open_edge = at x.entered (h.entered open_edge)
   where
-    at : (o : Option Side) → IsEnteredAt p (portal_of x) o → IsMaskBehind (map_of p) (IsLeftOut joined) (portal_of x) (option_and_then (λ (s : Side). mask_at masks (other_side s)) o)
-    at None none = λ b d gate. let g = line_of_gate (map_of p) b d (portal_of x) gate in none (gate.side.line, g.line, not gate.side.left, g.is, g.edge)
-    at (Some s) passable = behind_side (map_of p) (plan_is_map p is) ts labels good (IsLeftOut joined) masks are (portal_of x) s passable.line passable.is_line passable.passable passable.edge (mask_at masks (other_side s)) (are (other_side s))
+    at : (o : Option Side) → IsEnteredAt p (portal_into x) o → IsMaskBehind (map_of p) (IsLeftOut joined) (portal_into x) (option_and_then (λ (s : Side). mask_of_side masks (other_side s)) o)
+    at None none = λ b d gate. let g = line_of_gate (map_of p) b d (portal_into x) gate in none (gate.side.line, g.line, not gate.side.left, g.is, g.edge)
+    at (Some s) passable = behind_side (map_of p) (plan_is_map p is) ts labels good (IsLeftOut joined) masks are (portal_into x) s passable.line passable.is_line passable.passable passable.edge (mask_of_side masks (other_side s)) (are (other_side s))

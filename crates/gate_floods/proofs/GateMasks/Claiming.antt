@@ -8,11 +8,11 @@ use Rattle.cert_checker.specs.AcceptedGroups.Accepted.{AreGroupsJoined}
 use Rattle.math_base.proofs.Bools.{by_value}
 use Rattle.gate_floods.specs.Bits.{is_joined}
 use Rattle.gate_floods.specs.Gates.{IsGate, IsBeyond, here, further, IsInMask}
-use Rattle.gate_floods.specs.Exact.{IsClaimed}
+use Rattle.gate_floods.specs.Exact.{IsClaimedBlind}
 use Rattle.gate_floods.proofs.Connected.{near_below, far_below, on_through}
 use Rattle.gate_floods.proofs.RowBits.{joined_told, not_joined}
 use Rattle.gate_floods.specs.declared.gate_masks.masks.Row.{Row}
-use Rattle.gate_floods.specs.GateMasks.Masks.{IsIn, IsLeftOut}
+use Rattle.gate_floods.specs.GateMasks.Masks.{IsInRowOf, IsLeftOut}
 use Rattle.gate_floods.specs.GateMasks.Laws.{MasksAreThoseOfClaims}
 use Rattle.gate_floods.proofs.GateMasks.Masking.{in_of_not_out}
 
@@ -38,22 +38,22 @@ module _ (g : Map) (is_map : IsMap g) where
     mask_moved : (Claims Others : ℕ → ℕ → Type 0) → ((x : ℕ) → IsNear x → ¬ Claims b x → ¬ Others b x) → ((x : ℕ) → IsNear x → ¬ Claims d x → ¬ Others d x) → (c : ℕ) → IsInMask g Claims b d p c → IsInMask g Others b d p c
     mask_moved Claims Others less less_far c h = record { beyond = moved Claims Others less c h.beyond; unclaimed = less_far c (lies_near Claims c h.beyond) h.unclaimed }
 
-  module _ (cert : CertParts) (joined : List Row) (tells : (f k : ℕ) → f < g.sectors → k < g.sectors → IsIn joined f k ↔ AreGroupsJoined cert f k) where
-    less_claimed : (f k : ℕ) → f < g.sectors → k < g.sectors → ¬ IsLeftOut joined f k → ¬ IsClaimed g cert f k
+  module _ (cert : CertParts) (joined : List Row) (tells : (f k : ℕ) → f < g.sectors → k < g.sectors → IsInRowOf joined f k ↔ AreGroupsJoined cert f k) where
+    less_claimed : (f k : ℕ) → f < g.sectors → k < g.sectors → ¬ IsLeftOut joined f k → ¬ IsClaimedBlind g cert f k
     less_claimed f k low low_too h claim = claim.apart ((tells f k low low_too).0 (in_of_not_out joined f k h))
 
-    less_left_out : (f k : ℕ) → f < g.sectors → k < g.sectors → AreConnected g f k → ¬ IsClaimed g cert f k → ¬ IsLeftOut joined f k
+    less_left_out : (f k : ℕ) → f < g.sectors → k < g.sectors → AreConnected g f k → ¬ IsClaimedBlind g cert f k → ¬ IsLeftOut joined f k
     less_left_out f k low low_too connected none out =
         by_value (is_joined cert.rays f k)
         (λ e. out ((tells f k low low_too).1 (joined_told cert f k e)))
         (λ e. none (record { within = low; within_too = low_too; connected = connected; apart = not_joined cert f k e }))
 
-    of_claims : (b d : ℕ) (p : Portal) → IsGate g b d p → (c : ℕ) → IsInMask g (IsLeftOut joined) b d p c ↔ IsInMask g (IsClaimed g cert) b d p c
+    of_claims : (b d : ℕ) (p : Portal) → IsGate g b d p → (c : ℕ) → IsInMask g (IsLeftOut joined) b d p c ↔ IsInMask g (IsClaimedBlind g cert) b d p c
     of_claims b d p gate c =
         let low = near_below g is_map b d p gate in
         let low_far = far_below g is_map b d p gate in (
-          mask_moved b d p gate (IsLeftOut joined) (IsClaimed g cert) (λ x w. less_claimed b x low w.below) (λ x w. less_claimed d x low_far w.below) c,
-          mask_moved b d p gate (IsClaimed g cert) (IsLeftOut joined) (λ x w. less_left_out b x low w.below w.near) (λ x w. less_left_out d x low_far w.below w.far) c,
+          mask_moved b d p gate (IsLeftOut joined) (IsClaimedBlind g cert) (λ x w. less_claimed b x low w.below) (λ x w. less_claimed d x low_far w.below) c,
+          mask_moved b d p gate (IsClaimedBlind g cert) (IsLeftOut joined) (λ x w. less_left_out b x low w.below w.near) (λ x w. less_left_out d x low_far w.below w.far) c,
         )
 
 pub masks_of_claims : MasksAreThoseOfClaims

@@ -9,8 +9,8 @@ use Rattle.math_base.proofs.Bools.{not_both_values}
 use Rattle.math_base.proofs.Numbers.{below_or_last, same_or_not}
 use Rattle.math_base.proofs.Lists.{get_before_pushed, get_pushed, pushed_at}
 use Rattle.gate_floods.specs.declared.gate_masks.gate.Gate.{Gate}
-use Rattle.gate_floods.specs.GateMasks.Following.{Follows}
-use Rattle.gate_floods.specs.GateMasks.Flood.{AreWaysOn, LiesBeyond, here, further, is_marked, IsFlood, IsPut, IsStep}
+use Rattle.gate_floods.specs.GateMasks.Following.{GateFollows}
+use Rattle.gate_floods.specs.GateMasks.Flood.{AreWaysOn, LiesBeyond, here, further, is_marked, IsFlood, IsQueued, IsFloodStep}
 
 -- ---- marks
 
@@ -53,7 +53,7 @@ marked_within (m ∷ ms) (suc k) e = let w = marked_within ms k e in omega (arit
 
 module _ (es : List Gate) (Seen : ℕ → Type 0) (gate : Gate) where
   -- one more sector
-  pub put_flood : (c : ℕ) (marks marks' : List Bool) (queue queue' : List ℕ) (h : ℕ) → c < length marks → h ≤ length queue → LiesBeyond es Seen gate c → is_marked marks c ≡ false → IsPut c marks queue marks' queue'
+  pub put_flood : (c : ℕ) (marks marks' : List Bool) (queue queue' : List ℕ) (h : ℕ) → c < length marks → h ≤ length queue → LiesBeyond es Seen gate c → is_marked marks c ≡ false → IsQueued c marks queue marks' queue'
       → IsFlood es Seen gate marks queue h → IsFlood es Seen gate marks' queue' h
   put_flood c marks marks' queue queue' h lt le lies fresh put f =
       subst (λ (ms : List Bool). IsFlood es Seen gate ms queue' h) (sym put.marked) (subst (λ (q : List ℕ). IsFlood es Seen gate (set marks c true) q h) (sym put.queued) all)
@@ -111,11 +111,11 @@ module _ (es : List Gate) (Seen : ℕ → Type 0) (gate : Gate) where
         count = let a = count_less (replicate n false) gate.far inside (no_mark n gate.far) in let b = count_all n in simp length-set (omega (arith, a, b, len));
       }
 
-  pub begun_put : (n : ℕ) (marks marks' : List Bool) (queue queue' : List ℕ) → gate.far < n → marks ≡ replicate n false → queue ≡ [] → IsPut gate.far marks queue marks' queue' → IsFlood es Seen gate marks' queue' 0
+  pub begun_put : (n : ℕ) (marks marks' : List Bool) (queue queue' : List ℕ) → gate.far < n → marks ≡ replicate n false → queue ≡ [] → IsQueued gate.far marks queue marks' queue' → IsFlood es Seen gate marks' queue' 0
   begun_put n marks marks' queue queue' lt all none put = begun_flood n marks' queue' lt (put.marked ∙ ap (λ (ms : List Bool). set ms gate.far true) all) (put.queued ∙ ap (λ (q : List ℕ). q ++ gate.far ∷ []) none)
 
   -- the head moves on, where all is marked that may be reached from it
-  pub advanced : (marks : List Bool) (queue : List ℕ) (h x : ℕ) → IsFlood es Seen gate marks queue h → slice_get queue h ≡ Some x → ((e : Gate) → e.near ≡ x → Seen x → Contains es e → Follows gate e → is_marked marks e.far ≡ true) → IsFlood es Seen gate marks queue (h + 1)
+  pub advanced : (marks : List Bool) (queue : List ℕ) (h x : ℕ) → IsFlood es Seen gate marks queue h → slice_get queue h ≡ Some x → ((e : Gate) → e.near ≡ x → Seen x → Contains es e → GateFollows gate e → is_marked marks e.far ≡ true) → IsFlood es Seen gate marks queue (h + 1)
   advanced marks queue h x f at every = record {
     far = f.far;
     marked = f.marked;
@@ -135,13 +135,13 @@ module _ (es : List Gate) (Seen : ℕ → Type 0) (gate : Gate) where
     pub flood : IsFlood es Seen gate marks queue h
     pub len : length marks ≡ length start
     pub at : slice_get queue h ≡ Some x
-    pub reached : (k : ℕ) (e : Gate) → k < n → slice_get found k ≡ Some e → Follows gate e → is_marked marks e.far ≡ true
+    pub reached : (k : ℕ) (e : Gate) → k < n → slice_get found k ≡ Some e → GateFollows gate e → is_marked marks e.far ≡ true
 
   pub settling_begun : (marks : List Bool) (queue : List ℕ) (h x : ℕ) (found : List Gate) → IsFlood es Seen gate marks queue h → slice_get queue h ≡ Some x → IsSettling marks marks queue h x found 0
   settling_begun marks queue h x found f at = record { flood = f; len = refl; at = at; reached = λ k e lt. absurd (omega (arith, lt)) }
 
   pub settling_step : (start marks marks' : List Bool) (queue queue' : List ℕ) (h x : ℕ) (found : List Gate) (n : ℕ) (e : Gate) → AreWaysOn es Seen x found → slice_get found n ≡ Some e → e.far < length marks
-      → IsStep gate e marks queue marks' queue' → IsSettling start marks queue h x found n → IsSettling start marks' queue' h x found (n + 1)
+      → IsFloodStep gate e marks queue marks' queue' → IsSettling start marks queue h x found n → IsSettling start marks' queue' h x found (n + 1)
   settling_step start marks marks' queue queue' h x found n e from got lt (inl (fresh, may, put)) s =
       let own = (from e).0 (contains_of_get found e n got) in
       let inside = slice_get_within queue h x s.at in
@@ -166,7 +166,7 @@ module _ (es : List Gate) (Seen : ℕ → Type 0) (gate : Gate) where
               let q : e ≡ d = same_Some e d (sym got ∙ ap (slice_get found) (sym same) ∙ is) in
               elim why as (λ _. is_marked marks d.far ≡ true) [
                 | inl marked ↦ subst (λ (g : Gate). is_marked marks g.far ≡ true) q marked
-                | inr never ↦ absurd (never (subst (Follows gate) (sym q) follows))
+                | inr never ↦ absurd (never (subst (GateFollows gate) (sym q) follows))
               ]
         ];
       }))

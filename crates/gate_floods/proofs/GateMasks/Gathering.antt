@@ -12,7 +12,7 @@ use Rattle.sight_names.proofs.PlanMap.{line_of_plan, plan_is_map}
 use Rattle.math_base.proofs.Numbers.{below_or_not, below_or_last}
 use Rattle.math_base.proofs.Bools.{by_value}
 use Rattle.gate_floods.specs.declared.gate_masks.gate.Gate.{Gate}
-use Rattle.gate_floods.specs.GateMasks.Gates.{AreGates, AreGatesFrom, IsAdded, IsGateOf, IsStart, portal_of}
+use Rattle.gate_floods.specs.GateMasks.Gates.{AreGates, AreGatesFrom, IsGateAdded, IsGateOf, IsGateStart, portal_of_gate}
 use Rattle.gate_floods.proofs.Connected.{far_below}
 use Rattle.gate_floods.proofs.GateMasks.AtSide.{line_of_gate}
 
@@ -30,7 +30,7 @@ side_is : (s : Side) (k : ℕ) (b : Bool) → s.line ≡ k → s.left ≡ b → 
 side_is s k b e f = λ i. record { line = e i; left = f i }
 
 pub gates_added : (m : Map) (k : ℕ) (right left : Option Gate) (old mid new : List Gate) → TellsGate m (record { line = k; left = false }) right → TellsGate m (record { line = k; left = true }) left
-    → IsAdded right old mid → IsAdded left mid new → AreGatesBelow m k old → AreGatesBelow m (k + 1) new
+    → IsGateAdded right old mid → IsGateAdded left mid new → AreGatesBelow m k old → AreGatesBelow m (k + 1) new
 gates_added m k right left old mid new tells_right tells_left first second h e = (there, back)
   where
     here : (b : Bool) → IsGateOf m e × (e.side ≡ record { line = k; left = b }) → (e.side.line < k + 1) × IsGateOf m e
@@ -64,18 +64,18 @@ all_gates p n es past h e = ((λ c. ((h e).0 c).1), back)
   where
     back : IsGateOf (map_of p) e → Contains es e
     back g =
-        let l = line_of_gate (map_of p) e.near e.far (portal_of e) g.gate in
+        let l = line_of_gate (map_of p) e.near e.far (portal_of_gate e) g.gate in
         let k = line_of_plan p.points p.lines g.gate.side.line l.line l.is in
         let lt = slice_get_within p.lines g.gate.side.line (Some k.0) k.1 in
         let same : g.gate.side.line ≡ e.side.line = ap (λ (s : Side). s.line) g.side in
         (h e).1 (omega (arith, lt, past, same), g)
 
 pub gates_within : (p : PlanParts) → IsPlan p → (es : List Gate) → AreGates (map_of p) es → (e : Gate) → Contains es e → e.far < p.sectors
-gates_within p is es are e c = far_below (map_of p) (plan_is_map p is) e.near e.far (portal_of e) ((are e).0 c).gate
+gates_within p is es are e c = far_below (map_of p) (plan_is_map p is) e.near e.far (portal_of_gate e) ((are e).0 c).gate
 
 -- ---- the gates out of one sector
 
-pub start_order : (es : List Gate) (c i j : ℕ) → IsStart es c i → IsStart es (c + 1) j → i ≤ j
+pub start_order : (es : List Gate) (c i j : ℕ) → IsGateStart es c i → IsGateStart es (c + 1) j → i ≤ j
 start_order es c i j s t = elim (either i j) as (λ _. i ≤ j) [
   | inl le ↦ le
   | inr lt ↦ let w = s.within in
@@ -93,7 +93,7 @@ start_order es c i j s t = elim (either i j) as (λ _. i ≤ j) [
     got (e ∷ es) zero h = (e, refl)
     got (e ∷ es) (suc k) h = got es k (omega (arith, h))
 
-pub start_at : (es : List Gate) (c i : ℕ) → i ≤ length es → IsPartitionPoint (λ (e : Gate). ltb e.near c ≡ true) (λ (e : Gate). ltb e.near c ≡ false) es i → IsStart es c i
+pub start_at : (es : List Gate) (c i : ℕ) → i ≤ length es → IsPartitionPoint (λ (e : Gate). ltb e.near c ≡ true) (λ (e : Gate). ltb e.near c ≡ false) es i → IsGateStart es c i
 start_at es c i le point = record {
   within = le;
   before = λ k e lt at. subst (λ (d : Gate). d.near < c) (get_or_from_slice_get es k e e at) (ltb-true _ c (point.0 k e (omega arith) lt));
@@ -103,7 +103,7 @@ start_at es c i le point = record {
 pub gates_moved : (m : Map) (es fs : List Gate) → IsPermutation es fs → AreGates m es → AreGates m fs
 gates_moved m es fs moved h e = ((λ c. (h e).0 (Contains-permutation fs es e (IsPermutation-sym es fs moved) c)), (λ c. Contains-permutation es fs e moved ((h e).1 c)))
 
-pub gates_between : (es : List Gate) (c i j : ℕ) → IsStart es c i → IsStart es (c + 1) j → AreGatesFrom es c (take (j - i) (drop i es))
+pub gates_between : (es : List Gate) (c i j : ℕ) → IsGateStart es c i → IsGateStart es (c + 1) j → AreGatesFrom es c (take (j - i) (drop i es))
 gates_between es c i j s t e = (there, back)
   where
     there : Contains (take (j - i) (drop i es)) e → Contains es e × (e.near ≡ c)

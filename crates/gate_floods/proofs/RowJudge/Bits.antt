@@ -6,7 +6,7 @@ use Rattle.std.proofs.lemmas.Nat.{and_le_l, and_le_r, and_mask, mod-pow-add}
 use Rattle.std.proofs.lemmas.List.{get_or-take, get_or-drop}
 use Rattle.math_base.proofs.Numbers.{same_or_not, tells_same, tells_other}
 use Rattle.math_base.proofs.Bools.{one_true, true_by_first, true_by_second, not_both_values}
-use Rattle.gate_floods.specs.RowJudge.Words.{both_words, has_bit, row_at}
+use Rattle.gate_floods.specs.RowJudge.Words.{both_words, has_bit_in_words, row_in_words}
 
 -- ---- one word
 
@@ -49,7 +49,7 @@ no_bit w i e l =
 
 -- ---- a bit of a row
 
-pub found_bit : (ws : List ℕ) → has_bit ws ≡ true → (c : ℕ) × (bit_at (slice_index ws (c / 64)) (c % 64) ≡ 1)
+pub found_bit : (ws : List ℕ) → has_bit_in_words ws ≡ true → (c : ℕ) × (bit_at (slice_index ws (c / 64)) (c % 64) ≡ 1)
 found_bit ws h = let r = found ws h in (r.0 * 64 + r.1, number ws r.0 r.1 r.2 r.3)
   where
     number : (ws : List ℕ) (k i : ℕ) → i < 64 → bit_at (slice_index ws k) i ≡ 1 → bit_at (slice_index ws ((k * 64 + i) / 64)) ((k * 64 + i) % 64) ≡ 1
@@ -58,23 +58,23 @@ found_bit ws h = let r = found ws h in (r.0 * 64 + r.1, number ws r.0 r.1 r.2 r.
         let r : (k * 64 + i) % 64 ≡ i = omega (arith, l) in
         (λ j. bit_at (slice_index ws (q j)) (r j)) ∙ e
 
-    found : (ws : List ℕ) → has_bit ws ≡ true → (k : ℕ) × (i : ℕ) × (i < 64) × (bit_at (slice_index ws k) i ≡ 1)
+    found : (ws : List ℕ) → has_bit_in_words ws ≡ true → (k : ℕ) × (i : ℕ) × (i < 64) × (bit_at (slice_index ws k) i ≡ 1)
     found [] h = absurd (not_both_values false h refl)
-    found (w ∷ ws) h = elim (one_true (not (w % 2 ^ 64 == 0)) (has_bit ws) h) as (λ _. (k : ℕ) × (i : ℕ) × (i < 64) × (bit_at (slice_index (w ∷ ws) k) i ≡ 1)) [
+    found (w ∷ ws) h = elim (one_true (not (w % 2 ^ 64 == 0)) (has_bit_in_words ws) h) as (λ _. (k : ℕ) × (i : ℕ) × (i < 64) × (bit_at (slice_index (w ∷ ws) k) i ≡ 1)) [
       | inl e ↦ (let r = some_bit 64 w (λ n. not_both_values (not (w % 2 ^ 64 == 0)) e (none_in w n)) in (0, r.0, r.1, r.2))
       | inr e ↦ (let r = found ws e in (suc r.0, r.1, r.2, r.3))
     ]
 
-pub bit_found : (ws : List ℕ) (c : ℕ) → bit_at (slice_index ws (c / 64)) (c % 64) ≡ 1 → has_bit ws ≡ true
+pub bit_found : (ws : List ℕ) (c : ℕ) → bit_at (slice_index ws (c / 64)) (c % 64) ≡ 1 → has_bit_in_words ws ≡ true
 bit_found ws c e = found ws (c / 64) (c % 64) (omega arith) e
   where
     one_not_zero : (x : ℕ) → x ≡ 0 → x ≡ 1 → ⊥
     one_not_zero x e f = omega (arith, e, f)
 
-    found : (ws : List ℕ) (k i : ℕ) → i < 64 → bit_at (slice_index ws k) i ≡ 1 → has_bit ws ≡ true
+    found : (ws : List ℕ) (k i : ℕ) → i < 64 → bit_at (slice_index ws k) i ≡ 1 → has_bit_in_words ws ≡ true
     found [] k i l e = absurd (one_not_zero (bit_at 0 i) (no_bit 0 i refl l) e)
-    found (w ∷ ws) zero i l e = true_by_first (not (w % 2 ^ 64 == 0)) (has_bit ws) (some_in w (λ n. one_not_zero (bit_at w i) (no_bit w i n l) e))
-    found (w ∷ ws) (suc k) i l e = true_by_second (not (w % 2 ^ 64 == 0)) (has_bit ws) (found ws k i l e)
+    found (w ∷ ws) zero i l e = true_by_first (not (w % 2 ^ 64 == 0)) (has_bit_in_words ws) (some_in w (λ n. one_not_zero (bit_at w i) (no_bit w i n l) e))
+    found (w ∷ ws) (suc k) i l e = true_by_second (not (w % 2 ^ 64 == 0)) (has_bit_in_words ws) (found ws k i l e)
 
 -- ---- the words of both rows
 
@@ -121,26 +121,26 @@ in_each xs ys c h =
 
 -- ---- whether the two have a bit in common, word by word
 
-pub they_meet : (xs ys : List ℕ) (k : ℕ) → bit_and (slice_index xs k) (slice_index ys k) % 2 ^ 64 ≢ 0 → has_bit (both_words xs ys) ≡ true
+pub they_meet : (xs ys : List ℕ) (k : ℕ) → bit_and (slice_index xs k) (slice_index ys k) % 2 ^ 64 ≢ 0 → has_bit_in_words (both_words xs ys) ≡ true
 they_meet xs ys k n = at (both_words xs ys) k (λ e. n (ap (λ (w : ℕ). w % 2 ^ 64) (sym (word_of_both xs ys k)) ∙ e))
   where
-    at : (ws : List ℕ) (k : ℕ) → slice_index ws k % 2 ^ 64 ≢ 0 → has_bit ws ≡ true
+    at : (ws : List ℕ) (k : ℕ) → slice_index ws k % 2 ^ 64 ≢ 0 → has_bit_in_words ws ≡ true
     at [] k n = absurd (n refl)
-    at (w ∷ ws) zero n = true_by_first (not (w % 2 ^ 64 == 0)) (has_bit ws) (some_in w n)
-    at (w ∷ ws) (suc k) n = true_by_second (not (w % 2 ^ 64 == 0)) (has_bit ws) (at ws k n)
+    at (w ∷ ws) zero n = true_by_first (not (w % 2 ^ 64 == 0)) (has_bit_in_words ws) (some_in w n)
+    at (w ∷ ws) (suc k) n = true_by_second (not (w % 2 ^ 64 == 0)) (has_bit_in_words ws) (at ws k n)
 
-pub they_dont : (xs ys : List ℕ) (n : ℕ) → ((k : ℕ) → k < n → bit_and (slice_index xs k) (slice_index ys k) ≡ 0) → n ≡ min (length xs) (length ys) → has_bit (both_words xs ys) ≡ false
+pub they_dont : (xs ys : List ℕ) (n : ℕ) → ((k : ℕ) → k < n → bit_and (slice_index xs k) (slice_index ys k) ≡ 0) → n ≡ min (length xs) (length ys) → has_bit_in_words (both_words xs ys) ≡ false
 they_dont [] ys n none e = refl
 they_dont (x ∷ xs) [] n none e = rest xs
   where
     both_none : (b c : Bool) → b ≡ false → c ≡ false → (b || c) ≡ false
     both_none b c e f = cc
 
-    rest : (xs : List ℕ) → has_bit (both_words (0 ∷ xs) []) ≡ false
+    rest : (xs : List ℕ) → has_bit_in_words (both_words (0 ∷ xs) []) ≡ false
     rest [] = refl
-    rest (x ∷ xs) = both_none false (has_bit (both_words (x ∷ xs) [])) refl (rest xs)
+    rest (x ∷ xs) = both_none false (has_bit_in_words (both_words (x ∷ xs) [])) refl (rest xs)
 they_dont (x ∷ xs) (y ∷ ys) zero none e = absurd (omega (arith, e))
-they_dont (x ∷ xs) (y ∷ ys) (suc n) none e = both_none (not (bit_and x y % 2 ^ 64 == 0)) (has_bit (both_words xs ys)) (none_in (bit_and x y) (let h : bit_and x y ≡ 0 = none 0 (omega arith) in omega (arith, h))) (they_dont xs ys n (λ k l. none (suc k) (omega (arith, l))) (omega (arith, e)))
+they_dont (x ∷ xs) (y ∷ ys) (suc n) none e = both_none (not (bit_and x y % 2 ^ 64 == 0)) (has_bit_in_words (both_words xs ys)) (none_in (bit_and x y) (let h : bit_and x y ≡ 0 = none 0 (omega arith) in omega (arith, h))) (they_dont xs ys n (λ k l. none (suc k) (omega (arith, l))) (omega (arith, e)))
   where
     both_none : (b c : Bool) → b ≡ false → c ≡ false → (b || c) ≡ false
     both_none b c e f = cc
@@ -151,7 +151,7 @@ no_bit_left w x l m e = omega (arith, l, m, e)
 
 -- ---- the words of a row
 
-pub word_of_row : (xs : List ℕ) (w at i : ℕ) → i < w → slice_index (row_at xs w at) i ≡ slice_index xs (at + i)
+pub word_of_row : (xs : List ℕ) (w at i : ℕ) → i < w → slice_index (row_in_words xs w at) i ≡ slice_index xs (at + i)
 word_of_row xs w at i l = get_or-take w (drop at xs) i 0 l ∙ get_or-drop at xs i 0
 
 pub beyond : (xs : List ℕ) (i : ℕ) → length xs ≤ i → slice_index xs i ≡ 0

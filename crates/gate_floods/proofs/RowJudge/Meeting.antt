@@ -2,7 +2,7 @@
 use Rattle.std.proofs.Common.{◌≡◌, ℕ, ◌+◌, ◌-◌, ◌<◌, ◌≤◌, ◌⊎◌, inl, inr, List, take, drop, length, slice_index, bit_and, refl, sym, ◌∙◌, ap, subst, arith}
 use Rattle.std.proofs.lemmas.List.{length-drop, length-take-le, get_or-take, ext_get_or}
 use Rattle.math_base.proofs.Numbers.{below_or_not}
-use Rattle.gate_floods.specs.RowJudge.Words.{both_words, row_at, HasMet, IsCleared}
+use Rattle.gate_floods.specs.RowJudge.Words.{both_words, row_in_words, HasMet, IsCleared}
 use Rattle.gate_floods.proofs.RowJudge.Bits.{word_of_both, length_of_both, word_of_row, beyond, and_nothing}
 
 -- ---- word by word
@@ -28,16 +28,16 @@ module _ (old mask mid new : List ℕ) (at w : ℕ) (short : length mask ≤ w) 
       let m : j < at + w = omega (arith, l, long) in
       get_or-take (at + w) new j 0 m ∙ c.others j (inl (omega (arith, m))) ∙ h.others j (inl m) ∙ sym (get_or-take (at + w) old j 0 m))
 
-  row_long : (rows : List ℕ) (from : ℕ) → from + w ≤ length rows → length (row_at rows w from) ≡ w
+  row_long : (rows : List ℕ) (from : ℕ) → from + w ≤ length rows → length (row_in_words rows w from) ≡ w
   row_long rows from l = length-take-le w (drop from rows) (let d : length (drop from rows) ≡ length rows - from = length-drop from rows in omega (arith, d, l))
 
-  pub put_row : row_at new w (at + w) ≡ both_words (row_at old w at) mask
+  pub put_row : row_in_words new w (at + w) ≡ both_words (row_in_words old w at) mask
   put_row =
-      let long : length (row_at new w (at + w)) ≡ w = row_long new (at + w) (omega (arith, room, put_len)) in
-      let long_too : length (both_words (row_at old w at) mask) ≡ w = length_of_both (row_at old w at) mask ∙ row_long old at (omega (arith, room)) in
-      ext_get_or 0 (row_at new w (at + w)) (both_words (row_at old w at) mask) (long ∙ sym long_too) (λ j l.
+      let long : length (row_in_words new w (at + w)) ≡ w = row_long new (at + w) (omega (arith, room, put_len)) in
+      let long_too : length (both_words (row_in_words old w at) mask) ≡ w = length_of_both (row_in_words old w at) mask ∙ row_long old at (omega (arith, room)) in
+      ext_get_or 0 (row_in_words new w (at + w)) (both_words (row_in_words old w at) mask) (long ∙ sym long_too) (λ j l.
       let m : j < w = omega (arith, l, long) in
-      word_of_row new w (at + w) j m ∙ at_word j m (below_or_not j (length mask)) ∙ sym (word_of_both (row_at old w at) mask j ∙ ap (λ (x : ℕ). bit_and x (slice_index mask j)) (word_of_row old w at j m)))
+      word_of_row new w (at + w) j m ∙ at_word j m (below_or_not j (length mask)) ∙ sym (word_of_both (row_in_words old w at) mask j ∙ ap (λ (x : ℕ). bit_and x (slice_index mask j)) (word_of_row old w at j m)))
     where
       at_word : (j : ℕ) → j < w → (j < length mask) ⊎ (length mask ≤ j) → slice_index new (at + w + j) ≡ bit_and (slice_index old (at + j)) (slice_index mask j)
       at_word j m (inl l) = c.others (at + w + j) (inl (omega (arith, l))) ∙ h.met j l

@@ -12,8 +12,8 @@ use Rattle.cert_checker.proofs.TreeJudge.Walking.{with_more}
 use Rattle.gate_floods.specs.RowJudge.Masks.{MaskRows}
 use Rattle.gate_floods.specs.declared.row_judge.follow.Wait.{Wait}
 use Rattle.gate_floods.specs.declared.row_judge.follow.RowFollow.{RowFollow}
-use Rattle.gate_floods.specs.RowJudge.Asked.{Pending, pending_roots, Answers, AreAnswered, IsFirstWrong}
-use Rattle.gate_floods.specs.RowJudge.Path.{IsAt, HasAnswered, HasRefused}
+use Rattle.gate_floods.specs.RowJudge.Asked.{Pending, pending_roots, AnswersFirstInRow, AreAnswered, IsFirstWrongInRow}
+use Rattle.gate_floods.specs.RowJudge.Path.{IsRowWalkAt, HasAnswered, HasRefused}
 use Rattle.gate_floods.specs.RowJudge.Judged.{IsWalkedAt, IsFirstWrongFrom, FollowsAt}
 use Rattle.gate_floods.proofs.RowJudge.Walking.{answered_more, node_behind, one_node}
 
@@ -24,7 +24,7 @@ with_none t = ap (λ (ns : List Node). let u : Tree = record { source = t.source
 
 module _ (xs : List HalfEdge) (ms : MaskRows) (first : List ℕ) (roots : List Root) (firsts : List (Option ℕ)) (t : Tree) (source : ℕ) (path : List Frame) (rows : List ℕ) (waits : List Wait) (f : RowFollow) (walked : IsWalkedAt xs ms first roots firsts t source path rows waits f) (n : Node) where
   abbrev Before : List ℕ → Type 0
-  Before es = (ps : List Pending) × AreAnswered xs ms t.source (pending_roots ms first es) t.nodes ps × IsAt ms first roots path rows waits f ps
+  Before es = (ps : List Pending) × AreAnswered xs ms t.source (pending_roots ms first es) t.nodes ps × IsRowWalkAt ms first roots path rows waits f ps
 
   -- it answers
   pub goes_on : (path_new : List Frame) (rows_new : List ℕ) (waits_new : List Wait) (f_new : RowFollow) → HasAnswered xs ms source first roots n path rows waits f path_new rows_new waits_new f_new → IsWalkedAt xs ms first roots firsts (with_node n t) source path_new rows_new waits_new f_new
@@ -33,11 +33,11 @@ module _ (xs : List HalfEdge) (ms : MaskRows) (first : List ℕ) (roots : List R
       of : HasAnswered xs ms t.source first roots n path rows waits f path_new rows_new waits_new f_new
       of = subst (λ (s : ℕ). HasAnswered xs ms s first roots n path rows waits f path_new rows_new waits_new f_new) walked.source_is answered
 
-      go : (es : List ℕ) → Before es → (ps : List Pending) × AreAnswered xs ms t.source (pending_roots ms first es) (t.nodes ++ n ∷ []) ps × IsAt ms first roots path_new rows_new waits_new f_new ps
+      go : (es : List ℕ) → Before es → (ps : List Pending) × AreAnswered xs ms t.source (pending_roots ms first es) (t.nodes ++ n ∷ []) ps × IsRowWalkAt ms first roots path_new rows_new waits_new f_new ps
       go es (ps, before, at) = on (of.next ps at)
         where
-          on : (qs : List Pending) × Answers xs ms t.source ps n qs × IsAt ms first roots path_new rows_new waits_new f_new qs
-              → (ps : List Pending) × AreAnswered xs ms t.source (pending_roots ms first es) (t.nodes ++ n ∷ []) ps × IsAt ms first roots path_new rows_new waits_new f_new ps
+          on : (qs : List Pending) × AnswersFirstInRow xs ms t.source ps n qs × IsRowWalkAt ms first roots path_new rows_new waits_new f_new qs
+              → (ps : List Pending) × AreAnswered xs ms t.source (pending_roots ms first es) (t.nodes ++ n ∷ []) ps × IsRowWalkAt ms first roots path_new rows_new waits_new f_new ps
           on (qs, answer, behind) = (qs, answered_more xs ms t.source t.nodes n (pending_roots ms first es) ps qs before answer, behind)
 
   -- it doesn't
@@ -47,12 +47,12 @@ module _ (xs : List HalfEdge) (ms : MaskRows) (first : List ℕ) (roots : List R
       of : HasRefused xs ms t.source first roots n path rows waits f
       of = subst (λ (s : ℕ). HasRefused xs ms s first roots n path rows waits f) walked.source_is refused
 
-      go : (es : List ℕ) → Before es → IsFirstWrong xs ms t.source (pending_roots ms first es) (t.nodes ++ n ∷ []) (length t.nodes)
+      go : (es : List ℕ) → Before es → IsFirstWrongInRow xs ms t.source (pending_roots ms first es) (t.nodes ++ n ∷ []) (length t.nodes)
       go es (ps, before, at) = record {
         left = ps;
         within = let l : length (t.nodes ++ n ∷ []) ≡ length t.nodes + 1 = length-append t.nodes (n ∷ []) in omega (arith, l);
         before = subst (λ (ns : List Node). AreAnswered xs ms t.source (pending_roots ms first es) ns ps) (sym (take-append_seam t.nodes (n ∷ []))) before;
-        wrong = λ k e qs answer. of.none ps qs at (subst (λ (j : Node). Answers xs ms t.source ps j qs) (sym (one_node n k (sym (node_behind t.nodes n) ∙ e))) answer);
+        wrong = λ k e qs answer. of.none ps qs at (subst (λ (j : Node). AnswersFirstInRow xs ms t.source ps j qs) (sym (one_node n k (sym (node_behind t.nodes n) ∙ e))) answer);
         missing = λ e. absurd (let l : length (t.nodes ++ n ∷ []) ≡ length t.nodes + 1 = length-append t.nodes (n ∷ []) in omega (arith, l, e));
       }
 

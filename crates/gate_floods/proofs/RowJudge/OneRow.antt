@@ -17,10 +17,10 @@ use Rattle.sight_names.specs.Sequence.{Portal, IsSolidLine, apex, entry_edge, na
 use Rattle.sight_names.specs.Splitting.{EndPoints}
 use Rattle.block_evidence.specs.declared.sight_tree.Node.{Node}
 use Rattle.block_evidence.specs.declared.sight_tree.Node.TheVariants.{Open, Blocked}
-use Rattle.block_evidence.specs.Stuck.{Blocks}
+use Rattle.block_evidence.specs.Stuck.{BlocksEnds}
 use Rattle.mesh_shape.specs.declared.half_edges.table.HalfEdge.{HalfEdge}
 use Rattle.mesh_shape.specs.HalfEdges.Numbers.{edge}
-use Rattle.mesh_shape.specs.HalfEdges.HalfEdges.{portal_of, entering, IsHalfEdge, AreHalfEdges}
+use Rattle.mesh_shape.specs.HalfEdges.HalfEdges.{portal_into, entering, IsHalfEdge, AreHalfEdges}
 use Rattle.mesh_shape.proofs.HalfEdges.Reached.{reached, outside_is}
 use Rattle.cert_checker.specs.TreeJudge.Path.{edge_ends}
 use Rattle.cert_checker.specs.TreeJudge.Roots.{root_edge, root_edges, way_out_of}
@@ -28,9 +28,9 @@ use Rattle.cert_checker.proofs.TreeJudge.OneTree.{one_plain, one_way as ways_agr
 use Rattle.gate_floods.specs.Gates.{IsInMask}
 use Rattle.gate_floods.proofs.Flooding.{one_gate}
 use Rattle.gate_floods.specs.RowJudge.Masks.{MaskRows}
-use Rattle.gate_floods.specs.RowJudge.Words.{both_words, has_bit, is_away, is_in}
-use Rattle.gate_floods.specs.RowJudge.Asked.{Pending, Answers, AreAnswered, IsFirstWrong, ends_through, leaves, left_of, mask_at, pending_roots, pending_way, row_through, way_asked, ways_through, with_rest}
-use Rattle.gate_floods.specs.RowJudge.Laws.{AreMasks, IsMaskOf}
+use Rattle.gate_floods.specs.RowJudge.Words.{both_words, has_bit_in_words, is_away, is_in}
+use Rattle.gate_floods.specs.RowJudge.Asked.{Pending, AnswersFirstInRow, AreAnswered, IsFirstWrongInRow, ends_through, leaves, row_left, mask_of_edge, pending_roots, pending_way, row_through, way_asked, ways_through, with_rest}
+use Rattle.gate_floods.specs.RowJudge.Laws.{AreHalfEdgeMasks, IsPortalMask}
 use Rattle.gate_floods.proofs.RowJudge.Bits.{bit_found, found_bit, in_both, in_each}
 use Rattle.gate_floods.proofs.RowJudge.Telling.{one_answer}
 
@@ -51,11 +51,11 @@ both_to r s a b h m c e = let x = in_each r a c e in in_both s b c ((h c).0 x.0)
 both_same : (r s a b : List ℕ) → HaveSameBits r s → HaveSameBits a b → HaveSameBits (both_words r a) (both_words s b)
 both_same r s a b h m = λ c. (both_to r s a b h m c, both_to s r b a (turned r s h) (turned a b m) c)
 
-has_to : (r s : List ℕ) → HaveSameBits r s → has_bit r ≡ true → has_bit s ≡ true
+has_to : (r s : List ℕ) → HaveSameBits r s → has_bit_in_words r ≡ true → has_bit_in_words s ≡ true
 has_to r s h e = let f = found_bit r e in bit_found s f.0 ((h f.0).0 f.1)
 
-has_same : (r s : List ℕ) → HaveSameBits r s → has_bit r ≡ has_bit s
-has_same r s h = both_ways (has_bit r) (has_bit s) (has_to r s h) (has_to s r (turned r s h))
+has_same : (r s : List ℕ) → HaveSameBits r s → has_bit_in_words r ≡ has_bit_in_words s
+has_same r s h = both_ways (has_bit_in_words r) (has_bit_in_words s) (has_to r s h) (has_to s r (turned r s h))
 
 in_to : (r s : List ℕ) (c : ℕ) → HaveSameBits r s → is_in r c ≡ true → is_in s c ≡ true
 in_to r s c h e = tells_same (bit_of s c) 1 ((h c).0 (is_told_same (bit_of r c) 1 e))
@@ -71,7 +71,7 @@ AreSameMasks None (Some b) = ⊥
 AreSameMasks (Some a) None = ⊥
 AreSameMasks (Some a) (Some b) = HaveSameBits a b
 
-left_same : (r s : List ℕ) (a b : Option (List ℕ)) → HaveSameBits r s → AreSameMasks a b → HaveSameBits (left_of r a) (left_of s b)
+left_same : (r s : List ℕ) (a b : Option (List ℕ)) → HaveSameBits r s → AreSameMasks a b → HaveSameBits (row_left r a) (row_left s b)
 left_same r s None None h m = h
 left_same r s None (Some b) h m = absurd m
 left_same r s (Some a) None h m = absurd m
@@ -86,7 +86,7 @@ leaves_same r s (Some a) (Some b) h m = has_same (both_words r a) (both_words s 
 -- ---- masks
 
 module _ (m : Map) (ts : List Triangle) (ls : List (Option ℕ)) (good : IsGoodMesh m ts ls) (Claims : ℕ → ℕ → Type 0) where
-  mask_same : (a b : Option (List ℕ)) (p : Portal) → IsMaskOf m Claims p a → IsMaskOf m Claims p b → AreSameMasks a b
+  mask_same : (a b : Option (List ℕ)) (p : Portal) → IsPortalMask m Claims p a → IsPortalMask m Claims p b → AreSameMasks a b
   mask_same None None p h k = tt
   mask_same None (Some b) p h k = h k.0 k.1 k.2
   mask_same (Some a) None p h k = k h.0 h.1 h.2
@@ -102,7 +102,7 @@ module _ (m : Map) (ts : List Triangle) (ls : List (Option ℕ)) (good : IsGoodM
 
   -- ---- half-edges of two plans of the map
 
-  module _ (p q : PlanParts) (of_p : map_of p ≡ m) (of_q : map_of q ≡ m) (xs ys : List HalfEdge) (f : AreHalfEdges p ts ls xs) (g : AreHalfEdges q ts ls ys) (ms ns : MaskRows) (masks : AreMasks m Claims xs ms) (masks_too : AreMasks m Claims ys ns) (source : ℕ) where
+  module _ (p q : PlanParts) (of_p : map_of p ≡ m) (of_q : map_of q ≡ m) (xs ys : List HalfEdge) (f : AreHalfEdges p ts ls xs) (g : AreHalfEdges q ts ls ys) (ms ns : MaskRows) (masks : AreHalfEdgeMasks m Claims xs ms) (masks_too : AreHalfEdgeMasks m Claims ys ns) (source : ℕ) where
     one_way : (d : Edge) → entering ts xs d ≡ entering ts ys d
     one_way = ways_agree m ts ls good p q of_p of_q xs ys f g
 
@@ -113,17 +113,17 @@ module _ (m : Map) (ts : List Triangle) (ls : List (Option ℕ)) (good : IsGoodM
       left_way : x.left_way ≡ entering ts xs left
       right : Edge
       right_way : x.right_way ≡ entering ts xs right
-      mask : AreSameMasks (mask_at ms i) (mask_at ns i)
+      mask : AreSameMasks (mask_of_edge ms i) (mask_of_edge ns i)
 
-    alike_here : (d : Edge) (i : ℕ) (x y : HalfEdge) → slice_get xs i ≡ Some x → slice_get ys i ≡ Some y → IsHalfEdge p ts ls xs d x → IsHalfEdge q ts ls ys d y → ¬ IsSolidLine (map_of p) (portal_of x) → ¬ IsSolidLine (map_of q) (portal_of y) → AreAlike i x y
+    alike_here : (d : Edge) (i : ℕ) (x y : HalfEdge) → slice_get xs i ≡ Some x → slice_get ys i ≡ Some y → IsHalfEdge p ts ls xs d x → IsHalfEdge q ts ls ys d y → ¬ IsSolidLine (map_of p) (portal_into x) → ¬ IsSolidLine (map_of q) (portal_into y) → AreAlike i x y
     alike_here d i x y here there u v open_ open_too = record {
       same = one_plain m ts ls good p q of_p of_q d x y xs ys u v one_way;
       left = edge x.left x.apex;
       left_way = u.left_way;
       right = edge x.apex x.right;
       right_way = u.right_way;
-      mask = mask_same (mask_at ms i) (mask_at ns i) (portal_of x) (masks i x here (subst (λ (n : Map). ¬ IsSolidLine n (portal_of x)) of_p open_))
-          (subst (λ (r : Portal). IsMaskOf m Claims r (mask_at ns i)) (v.portal ∙ sym u.portal) (masks_too i y there (subst (λ (n : Map). ¬ IsSolidLine n (portal_of y)) of_q open_too)));
+      mask = mask_same (mask_of_edge ms i) (mask_of_edge ns i) (portal_into x) (masks i x here (subst (λ (n : Map). ¬ IsSolidLine n (portal_into x)) of_p open_))
+          (subst (λ (r : Portal). IsPortalMask m Claims r (mask_of_edge ns i)) (v.portal ∙ sym u.portal) (masks_too i y there (subst (λ (n : Map). ¬ IsSolidLine n (portal_into y)) of_q open_too)));
     }
 
     sector_same : {i : ℕ} {x y : HalfEdge} → AreAlike i x y → x.sector ≡ y.sector
@@ -188,7 +188,7 @@ module _ (m : Map) (ts : List Triangle) (ls : List (Option ℕ)) (good : IsGoodM
       by_sector d i e x y a true true h = tt
       by_sector d i e x y a true false h = absurd (not_both_values true refl h)
       by_sector d i e x y a false true h = absurd (not_both_values false h refl)
-      by_sector d i e x y a false false h = step d i e (leaves r (mask_at ms i)) (leaves s (mask_at ns i)) (leaves_same r s (mask_at ms i) (mask_at ns i) same a.mask)
+      by_sector d i e x y a false false h = step d i e (leaves r (mask_of_edge ms i)) (leaves s (mask_of_edge ns i)) (leaves_same r s (mask_of_edge ms i) (mask_of_edge ns i) same a.mask)
 
       way_same : (d : Edge) → AreSame (pending_way path r (way_asked xs ms source r (entering ts xs d))) (pending_way path s (way_asked ys ns source s (entering ts ys d)))
       way_same d = subst (λ (o : Option ℕ). AreSame (pending_way path r (way_asked xs ms source r (entering ts xs d))) (pending_way path s (way_asked ys ns source s o))) (one_way d) (at (entering ts xs d) refl)
@@ -229,10 +229,10 @@ module _ (m : Map) (ts : List Triangle) (ls : List (Option ℕ)) (good : IsGoodM
     -- ---- answers
 
     abbrev Here : List Pending → Node → List Pending → Type 0
-    Here fs n cs = Answers xs ms source fs n cs
+    Here fs n cs = AnswersFirstInRow xs ms source fs n cs
 
     abbrev There : List Pending → Node → List Pending → Type 0
-    There bs n ds = Answers ys ns source bs n ds
+    There bs n ds = AnswersFirstInRow ys ns source bs n ds
 
     ways_same : (a : Pending) (s : List ℕ) → HaveSameBits a.row s → (x y : HalfEdge) → AreAlike a.edge x y → AreSame (ways_through xs ms source a x) (ways_through ys ns source (with_row a s) y)
     ways_same a s same x y w =
@@ -257,7 +257,7 @@ module _ (m : Map) (ts : List Triangle) (ls : List (Option ℕ)) (good : IsGoodM
         there = pending_way (ends_through (with_row a s) y) after_too (way_asked ys ns source after_too (entering ts ys w.left)) ++ pending_way (ends_through (with_row a s) y) after_too (way_asked ys ns source after_too (entering ts ys w.right))
 
         rows : HaveSameBits after after_too
-        rows = left_same a.row s (mask_at ms a.edge) (mask_at ns a.edge) same w.mask
+        rows = left_same a.row s (mask_of_edge ms a.edge) (mask_of_edge ns a.edge) same w.mask
 
     same_first : (b c : Pending) (rb rc us : List Pending) → us ≡ b ∷ rb → us ≡ c ∷ rc → b ≡ c
     same_first b c rb rc us e h = cc
@@ -273,7 +273,7 @@ module _ (m : Map) (ts : List Triangle) (ls : List (Option ℕ)) (good : IsGoodM
         let yb : slice_get ys a.edge ≡ Some y = subst (λ (z : Pending). slice_get ys z.edge ≡ Some y) cb yc in
         let w = alike one.entry a.edge x.0 y one.entered x.1 yb in
         let away_too : is_away (row_through ns (with_row a one.other)) y.sector ≡ true = subst (λ (z : Pending). is_away (row_through ns z) y.sector ≡ true) cb away in
-        let rows : HaveSameBits (row_through ms a) (row_through ns (with_row a one.other)) = left_same a.row one.other (mask_at ms a.edge) (mask_at ns a.edge) one.row w.mask in
+        let rows : HaveSameBits (row_through ms a) (row_through ns (with_row a one.other)) = left_same a.row one.other (mask_of_edge ms a.edge) (mask_of_edge ns a.edge) one.row w.mask in
         let here : is_away (row_through ms a) x.0.sector ≡ true = away_same (row_through ms a) (row_through ns (with_row a one.other)) x.0.sector rows ∙ ap (is_away (row_through ns (with_row a one.other))) (sector_same w) ∙ away_too in
         let behind : ds ≡ ways_through ys ns source (with_row a one.other) y ++ rb = ed ∙ ap (λ (z : Pending). ways_through ys ns source z y ++ rc) cb ∙ ap (λ (us : List Pending). ways_through ys ns source (with_row a one.other) y ++ us) (sym (same_rest b c rb rc (b ∷ rb) refl ec)) in
         (ways_through xs ms source a x.0 ++ ra, (a, ra, x.0, refl, x.1, here, refl), subst (AreSame (ways_through xs ms source a x.0 ++ ra)) (sym behind) (joined _ _ _ _ (ways_same a one.other one.row x.0 y w) more))
@@ -282,8 +282,8 @@ module _ (m : Map) (ts : List Triangle) (ls : List (Option ℕ)) (good : IsGoodM
         let cb : c ≡ with_row a one.other = sym (same_first b c rb rc (b ∷ rb) refl ec) ∙ one.is in
         let yb : slice_get ys a.edge ≡ Some y = subst (λ (z : Pending). slice_get ys z.edge ≡ Some y) cb yc in
         let w = alike one.entry a.edge x.0 y one.entered x.1 yb in
-        let there : Blocks (ends_through (with_row a one.other) y) e = subst (λ (z : Pending). Blocks (ends_through z y) e) cb blocks in
-        let here : Blocks (ends_through a x.0) e = subst (λ (z : EndPoints). Blocks (a.path ++ z ∷ []) e) (sym (ends_same w)) there in
+        let there : BlocksEnds (ends_through (with_row a one.other) y) e = subst (λ (z : Pending). BlocksEnds (ends_through z y) e) cb blocks in
+        let here : BlocksEnds (ends_through a x.0) e = subst (λ (z : EndPoints). BlocksEnds (a.path ++ z ∷ []) e) (sym (ends_same w)) there in
         (ra, (a, ra, x.0, refl, x.1, here, refl), subst (AreSame ra) (sym (ed ∙ sym (same_rest b c rb rc (b ∷ rb) refl ec))) more)
 
     -- a node that answers for the one list answers for the other, and the same is to be asked behind it
@@ -320,18 +320,18 @@ module _ (m : Map) (ts : List Triangle) (ls : List (Option ℕ)) (good : IsGoodM
         let r = passed nodes j k rs last (omega (arith, l)) (omega (arith, few)) more in
         record { node = r.node; there = r.there; left = r.left; before = (rs, one, r.before); behind = r.behind; answers = r.answers }
 
-    no_later : (nodes : List Node) (fs bs : List Pending) (j k : ℕ) → AreSame fs bs → j < k → IsFirstWrong xs ms source fs nodes j → IsFirstWrong ys ns source bs nodes k → ⊥
+    no_later : (nodes : List Node) (fs bs : List Pending) (j k : ℕ) → AreSame fs bs → j < k → IsFirstWrongInRow xs ms source fs nodes j → IsFirstWrongInRow ys ns source bs nodes k → ⊥
     no_later nodes fs bs j k h l u v =
         let r = passed nodes j k bs v.left l v.within v.before in
         let s = moves r.node u.left r.left r.behind (all_on (take j nodes) fs bs u.left r.left h u.before r.before) r.answers in
         u.wrong r.node r.there s.0 s.1
 
-    no_later_wrong : (nodes : List Node) (r s : List ℕ) (j k : ℕ) → HaveSameBits r s → j < k → IsFirstWrong xs ms source (pending_roots ms r (root_edges ts xs m source)) nodes j → IsFirstWrong ys ns source (pending_roots ns s (root_edges ts ys m source)) nodes k → ⊥
+    no_later_wrong : (nodes : List Node) (r s : List ℕ) (j k : ℕ) → HaveSameBits r s → j < k → IsFirstWrongInRow xs ms source (pending_roots ms r (root_edges ts xs m source)) nodes j → IsFirstWrongInRow ys ns source (pending_roots ns s (root_edges ts ys m source)) nodes k → ⊥
     no_later_wrong nodes r s j k h l u v = no_later nodes _ _ j k (roots_same r s h (roots m source)) l u v
 
   -- the first wrong node is one
-  pub one_first_wrong : (p q : PlanParts) → map_of p ≡ m → map_of q ≡ m → (xs ys : List HalfEdge) → AreHalfEdges p ts ls xs → AreHalfEdges q ts ls ys → (ms ns : MaskRows) → AreMasks m Claims xs ms → AreMasks m Claims ys ns
-      → (source : ℕ) (nodes : List Node) (r s : List ℕ) (j k : ℕ) → HaveSameBits r s → IsFirstWrong xs ms source (pending_roots ms r (root_edges ts xs m source)) nodes j → IsFirstWrong ys ns source (pending_roots ns s (root_edges ts ys m source)) nodes k → j ≡ k
+  pub one_first_wrong : (p q : PlanParts) → map_of p ≡ m → map_of q ≡ m → (xs ys : List HalfEdge) → AreHalfEdges p ts ls xs → AreHalfEdges q ts ls ys → (ms ns : MaskRows) → AreHalfEdgeMasks m Claims xs ms → AreHalfEdgeMasks m Claims ys ns
+      → (source : ℕ) (nodes : List Node) (r s : List ℕ) (j k : ℕ) → HaveSameBits r s → IsFirstWrongInRow xs ms source (pending_roots ms r (root_edges ts xs m source)) nodes j → IsFirstWrongInRow ys ns source (pending_roots ns s (root_edges ts ys m source)) nodes k → j ≡ k
   one_first_wrong p q of_p of_q xs ys f g ms ns masks masks_too source nodes r s j k h u v = by (below_same_or_above j k)
     where
       by : (j < k) ⊎ (j ≡ k) ⊎ (k < j) → j ≡ k

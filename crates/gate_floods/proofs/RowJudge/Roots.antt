@@ -8,20 +8,20 @@ use Rattle.math_base.proofs.Bools.{one_true, first_false, second_false, not_both
 use Rattle.math_base.proofs.Numbers.{is_told_same}
 use Rattle.math_base.proofs.Options.{some_is_same, none_is_not_some, some_is_not_none}
 use Rattle.cert_checker.specs.declared.tree_judge.roots.Root.{Root}
-use Rattle.cert_checker.specs.TreeJudge.Path.{IsChain}
+use Rattle.cert_checker.specs.TreeJudge.Path.{IsRootChain}
 use Rattle.gate_floods.specs.RowJudge.Masks.{MaskRows}
-use Rattle.gate_floods.specs.RowJudge.Asked.{pending_way, pending_roots, with_rest, leaves, mask_at}
+use Rattle.gate_floods.specs.RowJudge.Asked.{pending_way, pending_roots, with_rest, leaves, mask_of_edge}
 use Rattle.gate_floods.specs.RowJudge.Path.{AsksRoot}
 
 -- ---- a chain is as long as its roots at most
 
 module _ (roots : List Root) where
   -- two chains from one place are equally long
-  one_length : (o : Option ℕ) (es fs : List ℕ) → IsChain roots o es → IsChain roots o fs → length es ≡ length fs
+  one_length : (o : Option ℕ) (es fs : List ℕ) → IsRootChain roots o es → IsRootChain roots o fs → length es ≡ length fs
   one_length o [] [] c d = refl
   one_length o [] (f ∷ fs) c (k, r, p, q, g, d) = absurd (none_is_not_some k (sym c ∙ p))
   one_length o (e ∷ es) [] (k, r, p, q, g, c) d = absurd (none_is_not_some k (sym d ∙ p))
-  one_length o (e ∷ es) (f ∷ fs) (k, r, p, q, g, c) (j, s, u, v, h, d) = ap suc (one_length s.next es fs (subst (λ (x : Root). IsChain roots x.next es) same c) d)
+  one_length o (e ∷ es) (f ∷ fs) (k, r, p, q, g, c) (j, s, u, v, h, d) = ap suc (one_length s.next es fs (subst (λ (x : Root). IsRootChain roots x.next es) same c) d)
     where
       place : k ≡ j
       place = some_is_same k j (sym p ∙ u)
@@ -30,18 +30,18 @@ module _ (roots : List Root) where
       same = some_is_same r s (sym q ∙ ap (slice_get roots) place ∙ v)
 
   -- the places of a chain
-  abbrev places_of : (o : Option ℕ) (es : List ℕ) → IsChain roots o es → List ℕ
+  abbrev places_of : (o : Option ℕ) (es : List ℕ) → IsRootChain roots o es → List ℕ
   places_of o [] c = []
   places_of o (e ∷ es) (k, r, p, q, g, c) = k ∷ places_of r.next es c
 
-  count_places : (o : Option ℕ) (es : List ℕ) (c : IsChain roots o es) → length (places_of o es c) ≡ length es
+  count_places : (o : Option ℕ) (es : List ℕ) (c : IsRootChain roots o es) → length (places_of o es c) ≡ length es
   count_places o [] c = refl
   count_places o (e ∷ es) (k, r, p, q, g, c) = ap suc (count_places r.next es c)
 
   -- from each of its places a chain goes on that is no longer
-  later : (k : ℕ) (o : Option ℕ) (es : List ℕ) (c : IsChain roots o es) → list_any (eqb k) (places_of o es c) ≡ true → (fs : List ℕ) × IsChain roots (Some k) fs × (length fs ≤ length es) × (k < length roots)
+  later : (k : ℕ) (o : Option ℕ) (es : List ℕ) (c : IsRootChain roots o es) → list_any (eqb k) (places_of o es c) ≡ true → (fs : List ℕ) × IsRootChain roots (Some k) fs × (length fs ≤ length es) × (k < length roots)
   later k o [] c h = absurd (not_both_values false h refl)
-  later k o (e ∷ es) (j, r, p, q, g, c) h = elim (one_true (eqb k j) (list_any (eqb k) (places_of r.next es c)) h) as (λ _. (fs : List ℕ) × IsChain roots (Some k) fs × (length fs ≤ suc (length es)) × (k < length roots)) [
+  later k o (e ∷ es) (j, r, p, q, g, c) h = elim (one_true (eqb k j) (list_any (eqb k) (places_of r.next es c)) h) as (λ _. (fs : List ℕ) × IsRootChain roots (Some k) fs × (length fs ≤ suc (length es)) × (k < length roots)) [
     | inl s ↦ (let at = is_told_same k j s in (e ∷ es, (j, r, ap (λ (n : ℕ). let u : Option ℕ = Some n in u) at, q, g, c), omega arith, (let l : j < length roots = slice_get_within roots j r q in omega (arith, l, at))))
     | inr s ↦ (let x = later k r.next es c s in (x.0, x.1, (let l : length x.0 ≤ length es = x.2 in omega (arith, l)), x.3))
   ]
@@ -51,19 +51,19 @@ module _ (roots : List Root) where
   no_other k [] h = tt
   no_other k (j ∷ ks) h = (first_false (eqb k j) (list_any (eqb k) ks) h, no_other k ks (second_false (eqb k j) (list_any (eqb k) ks) h))
 
-  distinct : (o : Option ℕ) (es : List ℕ) (c : IsChain roots o es) → IsDistinct eqb (places_of o es c)
+  distinct : (o : Option ℕ) (es : List ℕ) (c : IsRootChain roots o es) → IsDistinct eqb (places_of o es c)
   unfolding IsDistinct
   distinct o [] c = tt
   distinct o (e ∷ es) (k, r, p, q, g, c) = (no_other k (places_of r.next es c) (by (list_any (eqb k) (places_of r.next es c)) refl), distinct r.next es c)
     where
-      here : IsChain roots (Some k) (e ∷ es)
+      here : IsRootChain roots (Some k) (e ∷ es)
       here = (k, r, refl, q, g, c)
 
       by : (b : Bool) → list_any (eqb k) (places_of r.next es c) ≡ b → list_any (eqb k) (places_of r.next es c) ≡ false
       by false h = h
       by true h = absurd (let x = later k r.next es c h in let s : length x.0 ≡ suc (length es) = one_length (Some k) x.0 (e ∷ es) x.1 here in let l : length x.0 ≤ length es = x.2 in omega (arith, s, l))
 
-  pub chain_short : (o : Option ℕ) (es : List ℕ) → IsChain roots o es → length es ≤ length roots
+  pub chain_short : (o : Option ℕ) (es : List ℕ) → IsRootChain roots o es → length es ≤ length roots
   chain_short o es c = let n = length-le_from_distinct_below (places_of o es c) (length roots) (distinct o es c) (λ q h. (later q o es c h).3) in let m : length (places_of o es c) ≡ length es = count_places o es c in omega (arith, n, m)
 
 -- ---- roots that are left out
@@ -72,23 +72,23 @@ module _ (ms : MaskRows) (row : List ℕ) (roots : List Root) where
   -- so many roots of the chain are left out, and the rest is from this place on
   pub record HasSkipped (es : List ℕ) (count : ℕ) (at : Option ℕ) : Type 0 where
     pub rest : List ℕ
-    pub chain : IsChain roots at rest
+    pub chain : IsRootChain roots at rest
     pub counted : length es ≡ count + length rest
     pub same : pending_roots ms row es ≡ pending_roots ms row rest
 
   -- the root at this place, and the chain behind it
-  next_of : (r : Root) (at : Option ℕ) (rest : List ℕ) → option_and_then (slice_get roots) at ≡ Some r → IsChain roots at rest → (more : List ℕ) × (rest ≡ r.edge ∷ more) × IsChain roots r.next more
+  next_of : (r : Root) (at : Option ℕ) (rest : List ℕ) → option_and_then (slice_get roots) at ≡ Some r → IsRootChain roots at rest → (more : List ℕ) × (rest ≡ r.edge ∷ more) × IsRootChain roots r.next more
   next_of r at [] is c = absurd (none_is_not_some r (sym (ap (λ (o : Option ℕ). option_and_then (slice_get roots) o) c) ∙ is))
-  next_of r at (e ∷ es) is (k, s, p, q, g, c) = (es, ap (λ (n : ℕ). n ∷ es) (sym g ∙ ap (λ (x : Root). x.edge) same), subst (λ (x : Root). IsChain roots x.next es) same c)
+  next_of r at (e ∷ es) is (k, s, p, q, g, c) = (es, ap (λ (n : ℕ). n ∷ es) (sym g ∙ ap (λ (x : Root). x.edge) same), subst (λ (x : Root). IsRootChain roots x.next es) same c)
     where
       same : s ≡ r
       same = some_is_same s r (sym q ∙ sym (ap (λ (o : Option ℕ). option_and_then (slice_get roots) o) p) ∙ is)
 
-  rest_if : (e : ℕ) (b : Bool) → leaves row (mask_at ms e) ≡ b → with_rest ms row e ≡ (let o : Option ℕ = if b then Some e else None in o)
+  rest_if : (e : ℕ) (b : Bool) → leaves row (mask_of_edge ms e) ≡ b → with_rest ms row e ≡ (let o : Option ℕ = if b then Some e else None in o)
   rest_if e b h = ap (λ (c : Bool). let o : Option ℕ = if c then Some e else None in o) h
 
   -- one more is left out
-  pub one_skipped : (es : List ℕ) (count : ℕ) (at : Option ℕ) (r : Root) → HasSkipped es count at → option_and_then (slice_get roots) at ≡ Some r → leaves row (mask_at ms r.edge) ≡ false → HasSkipped es (count + 1) r.next
+  pub one_skipped : (es : List ℕ) (count : ℕ) (at : Option ℕ) (r : Root) → HasSkipped es count at → option_and_then (slice_get roots) at ≡ Some r → leaves row (mask_of_edge ms r.edge) ≡ false → HasSkipped es (count + 1) r.next
   one_skipped es count at r h is none =
       let n = next_of r at h.rest is h.chain in
       record {
@@ -99,7 +99,7 @@ module _ (ms : MaskRows) (row : List ℕ) (roots : List Root) where
       }
 
   -- one is asked
-  pub root_asked : (es : List ℕ) (count : ℕ) (at : Option ℕ) (r : Root) → HasSkipped es count at → option_and_then (slice_get roots) at ≡ Some r → leaves row (mask_at ms r.edge) ≡ true → AsksRoot ms row roots es (Some r.edge) r.next
+  pub root_asked : (es : List ℕ) (count : ℕ) (at : Option ℕ) (r : Root) → HasSkipped es count at → option_and_then (slice_get roots) at ≡ Some r → leaves row (mask_of_edge ms r.edge) ≡ true → AsksRoot ms row roots es (Some r.edge) r.next
   root_asked es count at r h is some =
       let n = next_of r at h.rest is h.chain in
       record {
@@ -109,7 +109,7 @@ module _ (ms : MaskRows) (row : List ℕ) (roots : List Root) where
         last = λ e. absurd (some_is_not_none r.edge e);
       }
 
-  ended : (es : List ℕ) (count : ℕ) (at : Option ℕ) → HasSkipped es count at → (rest : List ℕ) → IsChain roots at rest → pending_roots ms row es ≡ pending_roots ms row rest → rest ≡ [] → AsksRoot ms row roots es None at
+  ended : (es : List ℕ) (count : ℕ) (at : Option ℕ) → HasSkipped es count at → (rest : List ℕ) → IsRootChain roots at rest → pending_roots ms row es ≡ pending_roots ms row rest → rest ≡ [] → AsksRoot ms row roots es None at
   ended es count at h rest c same e = record {
     rest = rest;
     chain = c;
@@ -121,12 +121,12 @@ module _ (ms : MaskRows) (row : List ℕ) (roots : List Root) where
   pub roots_ended : (es : List ℕ) (count : ℕ) (at : Option ℕ) → HasSkipped es count at → option_and_then (slice_get roots) at ≡ None → AsksRoot ms row roots es None at
   roots_ended es count at h none = ended es count at h h.rest h.chain h.same (empty h.rest h.chain)
     where
-      empty : (rest : List ℕ) → IsChain roots at rest → rest ≡ []
+      empty : (rest : List ℕ) → IsRootChain roots at rest → rest ≡ []
       empty [] c = refl
       empty (e ∷ rest) (k, s, p, q, g, c) = absurd (none_is_not_some s (sym none ∙ ap (λ (o : Option ℕ). option_and_then (slice_get roots) o) p ∙ q))
 
   -- as many are left out as there are
-  pub all_skipped : (es : List ℕ) (count : ℕ) (o at : Option ℕ) → IsChain roots o es → length roots ≤ count → HasSkipped es count at → AsksRoot ms row roots es None at
+  pub all_skipped : (es : List ℕ) (count : ℕ) (o at : Option ℕ) → IsRootChain roots o es → length roots ≤ count → HasSkipped es count at → AsksRoot ms row roots es None at
   all_skipped es count o at c l h = ended es count at h h.rest h.chain h.same (empty h.rest (let s : length es ≤ length roots = chain_short roots o es c in let k : length es ≡ count + length h.rest = h.counted in omega (arith, s, k, l)))
     where
       empty : (rest : List ℕ) → length rest ≤ 0 → rest ≡ []

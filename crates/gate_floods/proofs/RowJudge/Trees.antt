@@ -19,21 +19,21 @@ use Rattle.sight_names.proofs.PlanMap.{plan_is_map}
 use Rattle.sight_lift.proofs.Doors.{has_name, named_is}
 use Rattle.sight_lift.proofs.Sequences.{root_is}
 use Rattle.block_evidence.specs.declared.Evidence.{Evidence}
-use Rattle.block_evidence.specs.Stuck.{Blocks}
+use Rattle.block_evidence.specs.Stuck.{BlocksEnds}
 use Rattle.block_evidence.specs.declared.sight_tree.Node.{Node}
 use Rattle.block_evidence.specs.declared.sight_tree.Node.TheVariants.{Open, Blocked}
 use Rattle.block_evidence.specs.SightTree.WholeTree.{HasNode, HasNoNode}
 use Rattle.mesh_shape.specs.declared.half_edges.table.HalfEdge.{HalfEdge}
-use Rattle.mesh_shape.specs.HalfEdges.HalfEdges.{portal_of, AreOfGoodMesh, way_outside}
+use Rattle.mesh_shape.specs.HalfEdges.HalfEdges.{portal_into, AreOfGoodMesh, way_outside}
 use Rattle.cert_checker.specs.TreeJudge.Roots.{way_out_of, root_edge}
 use Rattle.cert_checker.proofs.TreeJudge.Meshed.{AreAllNamed, Enters, IsInner, IsAsked, asked, not_asked, no_node_unasked, node_asked, left_inner, right_inner, passable}
 use Rattle.gate_floods.specs.Gates.{IsGate}
-use Rattle.gate_floods.specs.Rows.{IsInRow, IsEmptyRow, HasRow, EntersNone, AnswersAsked, no_node, skipped, blocked, open_node, RootsAsked}
+use Rattle.gate_floods.specs.Rows.{IsInRow, IsEmptyRow, HasRow, EntersNone, AnswersUnskipped, no_node, skipped, blocked, open_node, RootsAsked}
 use Rattle.gate_floods.proofs.RowsOn.{row_none, row_same, row_behind, row_masked, goes_on}
 use Rattle.gate_floods.specs.RowJudge.Masks.{MaskRows}
-use Rattle.gate_floods.specs.RowJudge.Words.{AreBitsOf, both_words, has_bit, is_away, is_in}
-use Rattle.gate_floods.specs.RowJudge.Asked.{mask_at, left_of, leaves, with_rest, Pending, pending_way, pending_roots, ends_through, row_through, ways_through, Answers, AreAnswered}
-use Rattle.gate_floods.specs.RowJudge.Laws.{IsMaskOf, AreMasks}
+use Rattle.gate_floods.specs.RowJudge.Words.{AreBitsOf, both_words, has_bit_in_words, is_away, is_in}
+use Rattle.gate_floods.specs.RowJudge.Asked.{mask_of_edge, row_left, leaves, with_rest, Pending, pending_way, pending_roots, ends_through, row_through, ways_through, AnswersFirstInRow, AreAnswered}
+use Rattle.gate_floods.specs.RowJudge.Laws.{IsPortalMask, AreHalfEdgeMasks}
 use Rattle.gate_floods.proofs.RowJudge.Bits.{found_bit, bit_found, in_both, in_each}
 use Rattle.math_base.proofs.Numbers.{tells_same, is_told_same}
 
@@ -46,7 +46,7 @@ first_same p q ps qs e = cc
 rest_same : (p q : Pending) (ps qs : List Pending) → p ∷ ps ≡ q ∷ qs → ps ≡ qs
 rest_same p q ps qs e = cc
 
-module _ (p : PlanParts) (ts : List Triangle) (xs : List HalfEdge) (w : AreOfGoodMesh p ts xs) (named : AreAllNamed ts w.labels) (ms : MaskRows) (Claims : ℕ → ℕ → Type 0) (Keeps : ℕ → Type 0) (masks : AreMasks (map_of p) Claims xs ms) (a : ℕ) where
+module _ (p : PlanParts) (ts : List Triangle) (xs : List HalfEdge) (w : AreOfGoodMesh p ts xs) (named : AreAllNamed ts w.labels) (ms : MaskRows) (Claims : ℕ → ℕ → Type 0) (Keeps : ℕ → Type 0) (masks : AreHalfEdgeMasks (map_of p) Claims xs ms) (a : ℕ) where
   -- the sectors of the triangles
   abbrev ls : List (Option ℕ)
   ls = w.labels
@@ -58,12 +58,12 @@ module _ (p : PlanParts) (ts : List Triangle) (xs : List HalfEdge) (w : AreOfGoo
   In ps c = IsInRow (map_of p) Claims Keeps ps c
 
   abbrev Answered : List Portal → List Node → Type 0
-  Answered ps ns = AnswersAsked (map_of p) ts w.labels a (λ qs. IsEmptyRow (map_of p) Claims Keeps qs) (λ qs. HasRow (map_of p) Claims Keeps qs) (λ qs. EntersNone (map_of p) ts w.labels Claims Keeps qs) ps ns
+  Answered ps ns = AnswersUnskipped (map_of p) ts w.labels a (λ qs. IsEmptyRow (map_of p) Claims Keeps qs) (λ qs. HasRow (map_of p) Claims Keeps qs) (λ qs. EntersNone (map_of p) ts w.labels Claims Keeps qs) ps ns
 
   -- ---- rows
 
   -- the row behind a portal
-  row_on : (front : List Portal) (q : Portal) (row : List ℕ) (o : Option (List ℕ)) → IsMaskOf (map_of p) Claims q o → AreBitsOf row (In front) → AreBitsOf (left_of row o) (In (front ++ q ∷ []))
+  row_on : (front : List Portal) (q : Portal) (row : List ℕ) (o : Option (List ℕ)) → IsPortalMask (map_of p) Claims q o → AreBitsOf row (In front) → AreBitsOf (row_left row o) (In (front ++ q ∷ []))
   row_on front q row None none tells c = (
     (λ h. row_same (map_of p) is_map ts w.labels w.good Claims Keeps front q c none ((tells c).0 h)),
     (λ h. (tells c).1 (((goes_on (map_of p) is_map ts w.labels w.good Claims Keeps c).1 front q none).0 h)),
@@ -78,22 +78,22 @@ module _ (p : PlanParts) (ts : List Triangle) (xs : List HalfEdge) (w : AreOfGoo
   Begins front q = HasRow (map_of p) Claims Keeps front ⊎ ((b : ℕ) × (d : ℕ) × IsGate (map_of p) b d q)
 
   -- something is left behind it
-  left_on : (front : List Portal) (q : Portal) (row : List ℕ) (o : Option (List ℕ)) → IsMaskOf (map_of p) Claims q o → AreBitsOf row (In front) → Begins front q → leaves row o ≡ true → HasRow (map_of p) Claims Keeps (front ++ q ∷ [])
+  left_on : (front : List Portal) (q : Portal) (row : List ℕ) (o : Option (List ℕ)) → IsPortalMask (map_of p) Claims q o → AreBitsOf row (In front) → Begins front q → leaves row o ≡ true → HasRow (map_of p) Claims Keeps (front ++ q ∷ [])
   left_on front q row None none tells (inl (c, h)) some = (c, row_same (map_of p) is_map ts w.labels w.good Claims Keeps front q c none h)
   left_on front q row None none tells (inr (b, d, gate)) some = absurd (none b d gate)
   left_on front q row (Some mask) is tells begins some = let f = found_bit (both_words row mask) some in (f.0, (row_on front q row (Some mask) is tells f.0).0 f.1)
 
-  nothing_on : (front : List Portal) (q : Portal) (row : List ℕ) (o : Option (List ℕ)) → IsMaskOf (map_of p) Claims q o → AreBitsOf row (In front) → leaves row o ≡ false → IsEmptyRow (map_of p) Claims Keeps (front ++ q ∷ [])
+  nothing_on : (front : List Portal) (q : Portal) (row : List ℕ) (o : Option (List ℕ)) → IsPortalMask (map_of p) Claims q o → AreBitsOf row (In front) → leaves row o ≡ false → IsEmptyRow (map_of p) Claims Keeps (front ++ q ∷ [])
   nothing_on front q row None none tells e = absurd (not_both_values true refl e)
-  nothing_on front q row (Some mask) is tells e = λ c h. not_both_values (has_bit (both_words row mask)) (bit_found (both_words row mask) c ((row_on front q row (Some mask) is tells c).1 h)) e
+  nothing_on front q row (Some mask) is tells e = λ c h. not_both_values (has_bit_in_words (both_words row mask)) (bit_found (both_words row mask) c ((row_on front q row (Some mask) is tells c).1 h)) e
 
   -- where something is left
-  leaves_on : (front : List Portal) (q : Portal) (row : List ℕ) (o : Option (List ℕ)) → IsMaskOf (map_of p) Claims q o → AreBitsOf row (In front) → HasRow (map_of p) Claims Keeps (front ++ q ∷ []) → leaves row o ≡ true
+  leaves_on : (front : List Portal) (q : Portal) (row : List ℕ) (o : Option (List ℕ)) → IsPortalMask (map_of p) Claims q o → AreBitsOf row (In front) → HasRow (map_of p) Claims Keeps (front ++ q ∷ []) → leaves row o ≡ true
   leaves_on front q row None none tells h = refl
   leaves_on front q row (Some mask) is tells (c, h) = bit_found (both_words row mask) c ((row_on front q row (Some mask) is tells c).1 h)
 
   -- where nothing is
-  leaves_none : (front : List Portal) (q : Portal) (row : List ℕ) (o : Option (List ℕ)) → IsMaskOf (map_of p) Claims q o → AreBitsOf row (In front) → Begins front q → IsEmptyRow (map_of p) Claims Keeps (front ++ q ∷ []) → leaves row o ≡ false
+  leaves_none : (front : List Portal) (q : Portal) (row : List ℕ) (o : Option (List ℕ)) → IsPortalMask (map_of p) Claims q o → AreBitsOf row (In front) → Begins front q → IsEmptyRow (map_of p) Claims Keeps (front ++ q ∷ []) → leaves row o ≡ false
   leaves_none front q row o is tells begins empty = by (leaves row o) refl
     where
       by : (b : Bool) → leaves row o ≡ b → leaves row o ≡ false
@@ -139,25 +139,25 @@ module _ (p : PlanParts) (ts : List Triangle) (xs : List HalfEdge) (w : AreOfGoo
   reached_is : (front : List Portal) (q : Portal) (i : ℕ) (n : Enters p ts w.labels xs q i) → reached ts w.labels (front ++ q ∷ []) ≡ n.x.sector
   reached_is front q i n = ap (λ (o : Option Portal). option_and_then (λ (r : Portal). option_and_then (label_of w.labels) (triangle_at ts (entry_edge r))) o) (last_pushed q front None) ∙ ap (λ (o : Option ℕ). option_and_then (label_of w.labels) o) n.found ∙ n.label
 
-  same_portal : (q : Portal) (i : ℕ) (n : Enters p ts w.labels xs q i) → portal_of n.x ≡ q
+  same_portal : (q : Portal) (i : ℕ) (n : Enters p ts w.labels xs q i) → portal_into n.x ≡ q
   same_portal q i n = λ j. record { left = n.left j; right = n.right j }
 
   -- its mask is the portal's
-  mask_is : (q : Portal) (i : ℕ) → IsAsked p ts xs w a q i → IsMaskOf (map_of p) Claims q (mask_at ms i)
-  mask_is q i n = subst (λ (r : Portal). IsMaskOf (map_of p) Claims r (mask_at ms i)) (same_portal q i n.enters) (masks i n.enters.x n.enters.is (λ s. n.no_wall (subst (λ (r : Portal). IsSolidLine (map_of p) r) (same_portal q i n.enters) s)))
+  mask_is : (q : Portal) (i : ℕ) → IsAsked p ts xs w a q i → IsPortalMask (map_of p) Claims q (mask_of_edge ms i)
+  mask_is q i n = subst (λ (r : Portal). IsPortalMask (map_of p) Claims r (mask_of_edge ms i)) (same_portal q i n.enters) (masks i n.enters.x n.enters.is (λ s. n.no_wall (subst (λ (r : Portal). IsSolidLine (map_of p) r) (same_portal q i n.enters) s)))
 
   -- the two ways behind the half-edge are those of the sequences
   ways_are : (front : List Portal) (row : List ℕ) (q : Portal) (i : ℕ) (n : Enters p ts w.labels xs q i)
-      → ways_through xs ms a (this front row i) n.x ≡ asks (front ++ q ∷ []) (left_of row (mask_at ms i)) (way_out q Left n.x.apex) ++ asks (front ++ q ∷ []) (left_of row (mask_at ms i)) (way_out q Right n.x.apex)
+      → ways_through xs ms a (this front row i) n.x ≡ asks (front ++ q ∷ []) (row_left row (mask_of_edge ms i)) (way_out q Left n.x.apex) ++ asks (front ++ q ∷ []) (row_left row (mask_of_edge ms i)) (way_out q Right n.x.apex)
   ways_are front row q i n = λ j. pending_way (ends j) behind (if_rest behind (way_outside xs a (n.left_way j))) ++ pending_way (ends j) behind (if_rest behind (way_outside xs a (n.right_way j)))
     where
       behind : List ℕ
-      behind = left_of row (mask_at ms i)
+      behind = row_left row (mask_of_edge ms i)
 
       ends : ends_through (this front row i) n.x ≡ end_points (map_of p) (front ++ q ∷ [])
       ends = through front row q i n.x n.left_at n.right_at
 
-  rest_if : (row : List ℕ) (i : ℕ) (b : Bool) → leaves row (mask_at ms i) ≡ b → with_rest ms row i ≡ (let o : Option ℕ = if b then Some i else None in o)
+  rest_if : (row : List ℕ) (i : ℕ) (b : Bool) → leaves row (mask_of_edge ms i) ≡ b → with_rest ms row i ≡ (let o : Option ℕ = if b then Some i else None in o)
   rest_if row i b h = ap (λ (c : Bool). let o : Option ℕ = if c then Some i else None in o) h
 
   -- ---- whether the row has the sector that is entered
@@ -182,10 +182,10 @@ module _ (p : PlanParts) (ts : List Triangle) (xs : List HalfEdge) (w : AreOfGoo
 
   module _ (front : List Portal) (row : List ℕ) (q : Portal) (i : ℕ) (rest : List Pending) (n : IsAsked p ts xs w a q i) (tells : AreBitsOf row (In front)) (left : HasRow (map_of p) Claims Keeps (front ++ q ∷ [])) where
     abbrev further : List ℕ
-    further = left_of row (mask_at ms i)
+    further = row_left row (mask_of_edge ms i)
 
-    tells_on : AreBitsOf (left_of row (mask_at ms i)) (In (front ++ q ∷ []))
-    tells_on = row_on front q row (mask_at ms i) (mask_is q i n) tells
+    tells_on : AreBitsOf (row_left row (mask_of_edge ms i)) (In (front ++ q ∷ []))
+    tells_on = row_on front q row (mask_of_edge ms i) (mask_is q i n) tells
 
     same_half_edge : (r : Pending) (x : HalfEdge) → r ≡ this front row i → slice_get xs r.edge ≡ Some x → x ≡ n.enters.x
     same_half_edge r x e f = some_is_same x n.enters.x (sym f ∙ ap (λ (s : Pending). slice_get xs s.edge) e ∙ n.enters.is)
@@ -195,7 +195,7 @@ module _ (p : PlanParts) (ts : List Triangle) (xs : List HalfEdge) (w : AreOfGoo
       here = Blocked e ∷ [];
       back = ns;
       nodes = refl;
-      answers = blocked q n.enters.k e (has_node front q i n) left (subst (λ (es : List EndPoints). Blocks es e) ends blocks) refl;
+      answers = blocked q n.enters.k e (has_node front q i n) left (subst (λ (es : List EndPoints). BlocksEnds es e) ends blocks) refl;
       behind = subst (λ (qs : List Pending). AreAnswered xs ms a qs ns []) (g ∙ sym (rest_same (this front row i) r rest others first)) behind;
     }
       where
@@ -224,22 +224,22 @@ module _ (p : PlanParts) (ts : List Triangle) (xs : List HalfEdge) (w : AreOfGoo
         qr = way_out q Right n.enters.x.apex
 
         none_entered : EntersNone (map_of p) ts w.labels Claims Keeps (front ++ q ∷ [])
-        none_entered = away_so (front ++ q ∷ []) (left_of row (mask_at ms i)) n.enters.x.sector tells_on (reached_is front q i n.enters) (subst (λ (s : Pending). is_away (row_through ms s) n.enters.x.sector ≡ true) same (subst (λ (y : HalfEdge). is_away (row_through ms r) y.sector ≡ true) found away))
+        none_entered = away_so (front ++ q ∷ []) (row_left row (mask_of_edge ms i)) n.enters.x.sector tells_on (reached_is front q i n.enters) (subst (λ (s : Pending). is_away (row_through ms s) n.enters.x.sector ≡ true) same (subst (λ (y : HalfEdge). is_away (row_through ms r) y.sector ≡ true) found away))
 
-        asked_next : rs ≡ asks (front ++ q ∷ []) (left_of row (mask_at ms i)) ql ++ (asks (front ++ q ∷ []) (left_of row (mask_at ms i)) qr ++ rest)
+        asked_next : rs ≡ asks (front ++ q ∷ []) (row_left row (mask_of_edge ms i)) ql ++ (asks (front ++ q ∷ []) (row_left row (mask_of_edge ms i)) qr ++ rest)
         asked_next = g ∙ (λ j. ways_through xs ms a (same j) (found j) ++ (sym (rest_same (this front row i) r rest others first)) j) ∙ ap (λ (ps : List Pending). ps ++ rest) (ways_are front row q i n.enters)
-            ∙ append_assoc (asks (front ++ q ∷ []) (left_of row (mask_at ms i)) ql) (asks (front ++ q ∷ []) (left_of row (mask_at ms i)) qr) rest
+            ∙ append_assoc (asks (front ++ q ∷ []) (row_left row (mask_of_edge ms i)) ql) (asks (front ++ q ∷ []) (row_left row (mask_of_edge ms i)) qr) rest
 
-        one : Splits (front ++ q ∷ []) ql (asks (front ++ q ∷ []) (left_of row (mask_at ms i)) qr ++ rest) ns
-        one = all (front ++ q ∷ []) (left_of row (mask_at ms i)) ql (asks (front ++ q ∷ []) (left_of row (mask_at ms i)) qr ++ rest) ns (left_inner p ts xs w named q i n.enters) tells_on (inl left) few (subst (λ (ps : List Pending). AreAnswered xs ms a ps ns []) asked_next behind)
+        one : Splits (front ++ q ∷ []) ql (asks (front ++ q ∷ []) (row_left row (mask_of_edge ms i)) qr ++ rest) ns
+        one = all (front ++ q ∷ []) (row_left row (mask_of_edge ms i)) ql (asks (front ++ q ∷ []) (row_left row (mask_of_edge ms i)) qr ++ rest) ns (left_inner p ts xs w named q i n.enters) tells_on (inl left) few (subst (λ (ps : List Pending). AreAnswered xs ms a ps ns []) asked_next behind)
 
         fewer : length one.back ≤ c
         fewer = let e : length ns ≡ length one.here + length one.back = ap (λ (us : List Node). length us) one.nodes ∙ length-append one.here one.back in omega (arith, e, few)
 
         two : Splits (front ++ q ∷ []) qr rest one.back
-        two = all (front ++ q ∷ []) (left_of row (mask_at ms i)) qr rest one.back (right_inner p ts xs w named q i n.enters) tells_on (inl left) fewer one.behind
+        two = all (front ++ q ∷ []) (row_left row (mask_of_edge ms i)) qr rest one.back (right_inner p ts xs w named q i n.enters) tells_on (inl left) fewer one.behind
 
-        join : (l : Splits (front ++ q ∷ []) ql (asks (front ++ q ∷ []) (left_of row (mask_at ms i)) qr ++ rest) ns) → Splits (front ++ q ∷ []) qr rest l.back → Splits front q rest (Open ∷ ns)
+        join : (l : Splits (front ++ q ∷ []) ql (asks (front ++ q ∷ []) (row_left row (mask_of_edge ms i)) qr ++ rest) ns) → Splits (front ++ q ∷ []) qr rest l.back → Splits front q rest (Open ∷ ns)
         join l k = record {
           here = Open ∷ (l.here ++ k.here);
           back = k.back;
@@ -265,19 +265,19 @@ module _ (p : PlanParts) (ts : List Triangle) (xs : List HalfEdge) (w : AreOfGoo
       moved : (o : Option ℕ) → if_rest row (the_way q) ≡ o → AreAnswered xs ms a (pending_way (end_points (map_of p) front) row o ++ rest) ns []
       moved o e = subst (λ (u : Option ℕ). AreAnswered xs ms a (pending_way (end_points (map_of p) front) row u ++ rest) ns []) e answered
 
-      at : (i : ℕ) → the_way q ≡ Some i → IsAsked p ts xs w a q i → (b : Bool) → leaves row (mask_at ms i) ≡ b → Splits front q rest ns
+      at : (i : ℕ) → the_way q ≡ Some i → IsAsked p ts xs w a q i → (b : Bool) → leaves row (mask_of_edge ms i) ≡ b → Splits front q rest ns
       at i e n false h = record {
         here = [];
         back = ns;
         nodes = refl;
-        answers = skipped q n.enters.k (has_node front q i n) (nothing_on front q row (mask_at ms i) (mask_is q i n) tells h) refl;
+        answers = skipped q n.enters.k (has_node front q i n) (nothing_on front q row (mask_of_edge ms i) (mask_is q i n) tells h) refl;
         behind = moved None (ap (if_rest row) e ∙ rest_if row i false h);
       }
-      at i e n true h = f i n (left_on front q row (mask_at ms i) (mask_is q i n) tells begins h) (moved (Some i) (ap (if_rest row) e ∙ rest_if row i true h))
+      at i e n true h = f i n (left_on front q row (mask_of_edge ms i) (mask_is q i n) tells begins h) (moved (Some i) (ap (if_rest row) e ∙ rest_if row i true h))
 
       by : (o : Option ℕ) → the_way q ≡ o → Splits front q rest ns
       by None e = record { here = []; back = ns; nodes = refl; answers = no_node q (last_pushed q front None) (not_asked p ts xs w a q inner e) refl; behind = moved None (ap (if_rest row) e) }
-      by (Some i) e = at i e (asked p ts xs w a q i e) (leaves row (mask_at ms i)) refl
+      by (Some i) e = at i e (asked p ts xs w a q i e) (leaves row (mask_of_edge ms i)) refl
 
   subtree : (c : ℕ) → SplitsAll c
   subtree zero front row q rest ns inner tells begins few answered = at_portal front row q rest ns inner tells begins (λ i n left now. no_node_left front row q i rest n tells left ns few now) answered
@@ -306,31 +306,31 @@ module _ (p : PlanParts) (ts : List Triangle) (xs : List HalfEdge) (w : AreOfGoo
   at_skipped : (front : List Portal) (row : List ℕ) (q : Portal) (rest : List Pending) (here back : List Node) → NodeAt q → AreBitsOf row (In front) → Begins front q → IsEmptyRow (map_of p) Claims Keeps (front ++ q ∷ []) → here ≡ [] → AreAnswered xs ms a rest back []
       → AreAnswered xs ms a (asks front row q ++ rest) (here ++ back) []
   at_skipped front row q rest here back n tells begins empty e answered =
-      moved_to front row q None rest (here ++ back) back (ap (if_rest row) n.way ∙ rest_if row n.i false (leaves_none front q row (mask_at ms n.i) (mask_is q n.i n.is_asked) tells begins empty)) (ap (λ (ns : List Node). ns ++ back) e) answered
+      moved_to front row q None rest (here ++ back) back (ap (if_rest row) n.way ∙ rest_if row n.i false (leaves_none front q row (mask_of_edge ms n.i) (mask_is q n.i n.is_asked) tells begins empty)) (ap (λ (ns : List Node). ns ++ back) e) answered
 
   way_is : (front : List Portal) (row : List ℕ) (q : Portal) (n : NodeAt q) → AreBitsOf row (In front) → HasRow (map_of p) Claims Keeps (front ++ q ∷ []) → if_rest row (the_way q) ≡ Some n.i
-  way_is front row q n tells left = ap (if_rest row) n.way ∙ rest_if row n.i true (leaves_on front q row (mask_at ms n.i) (mask_is q n.i n.is_asked) tells left)
+  way_is front row q n tells left = ap (if_rest row) n.way ∙ rest_if row n.i true (leaves_on front q row (mask_of_edge ms n.i) (mask_is q n.i n.is_asked) tells left)
 
-  at_blocked : (front : List Portal) (row : List ℕ) (q : Portal) (d : Evidence) (rest : List Pending) (here back : List Node) → NodeAt q → AreBitsOf row (In front) → HasRow (map_of p) Claims Keeps (front ++ q ∷ []) → Blocks (end_points (map_of p) (front ++ q ∷ [])) d → here ≡ Blocked d ∷ []
+  at_blocked : (front : List Portal) (row : List ℕ) (q : Portal) (d : Evidence) (rest : List Pending) (here back : List Node) → NodeAt q → AreBitsOf row (In front) → HasRow (map_of p) Claims Keeps (front ++ q ∷ []) → BlocksEnds (end_points (map_of p) (front ++ q ∷ [])) d → here ≡ Blocked d ∷ []
       → AreAnswered xs ms a rest back [] → AreAnswered xs ms a (asks front row q ++ rest) (here ++ back) []
   at_blocked front row q d rest here back n tells left blocks e answered =
       let x = n.is_asked.enters in
       moved_to front row q (Some n.i) rest (here ++ back) (Blocked d ∷ back) (way_is front row q n tells left) (ap (λ (ns : List Node). ns ++ back) e)
-      (rest, (this front row n.i, rest, x.x, refl, x.is, subst (λ (es : List EndPoints). Blocks es d) (sym (through front row q n.i x.x x.left_at x.right_at)) blocks, refl), answered)
+      (rest, (this front row n.i, rest, x.x, refl, x.is, subst (λ (es : List EndPoints). BlocksEnds es d) (sym (through front row q n.i x.x x.left_at x.right_at)) blocks, refl), answered)
 
   at_open : (front : List Portal) (row : List ℕ) (q : Portal) (t : ℕ) (rest : List Pending) (here back left right : List Node) (n : NodeAt q) → AreBitsOf row (In front) → HasRow (map_of p) Claims Keeps (front ++ q ∷ []) → EntersNone (map_of p) ts w.labels Claims Keeps (front ++ q ∷ [])
       → apex ts q ≡ Some t → here ≡ Open ∷ (left ++ right)
-      → AreAnswered xs ms a (asks (front ++ q ∷ []) (left_of row (mask_at ms n.i)) (way_out q Left t) ++ (asks (front ++ q ∷ []) (left_of row (mask_at ms n.i)) (way_out q Right t) ++ rest)) (left ++ (right ++ back)) []
+      → AreAnswered xs ms a (asks (front ++ q ∷ []) (row_left row (mask_of_edge ms n.i)) (way_out q Left t) ++ (asks (front ++ q ∷ []) (row_left row (mask_of_edge ms n.i)) (way_out q Right t) ++ rest)) (left ++ (right ++ back)) []
       → AreAnswered xs ms a (asks front row q ++ rest) (here ++ back) []
   at_open front row q t rest here back left right n tells some enters third e answered =
       moved_to front row q (Some n.i) rest (here ++ back) (Open ∷ (left ++ (right ++ back))) (way_is front row q n tells some) (ap (λ (ns : List Node). ns ++ back) e ∙ ap (λ (ns : List Node). Open ∷ ns) (append_assoc left right back)) (
         ways_through xs ms a (this front row n.i) n.is_asked.enters.x ++ rest,
-        (this front row n.i, rest, n.is_asked.enters.x, refl, n.is_asked.enters.is, so_away (front ++ q ∷ []) further n.is_asked.enters.x.sector (row_on front q row (mask_at ms n.i) (mask_is q n.i n.is_asked) tells) (reached_is front q n.i n.is_asked.enters) enters, refl),
+        (this front row n.i, rest, n.is_asked.enters.x, refl, n.is_asked.enters.is, so_away (front ++ q ∷ []) further n.is_asked.enters.x.sector (row_on front q row (mask_of_edge ms n.i) (mask_is q n.i n.is_asked) tells) (reached_is front q n.i n.is_asked.enters) enters, refl),
         subst (λ (ps : List Pending). AreAnswered xs ms a ps (left ++ (right ++ back)) []) (sym ways) answered,
       )
     where
       further : List ℕ
-      further = left_of row (mask_at ms n.i)
+      further = row_left row (mask_of_edge ms n.i)
 
       ways : ways_through xs ms a (this front row n.i) n.is_asked.enters.x ++ rest ≡ asks (front ++ q ∷ []) further (way_out q Left t) ++ (asks (front ++ q ∷ []) further (way_out q Right t) ++ rest)
       ways = ap (λ (ps : List Pending). ps ++ rest) (ways_are front row q n.i n.is_asked.enters) ∙ append_assoc (asks (front ++ q ∷ []) further (way_out q Left n.is_asked.enters.x.apex)) (asks (front ++ q ∷ []) further (way_out q Right n.is_asked.enters.x.apex)) rest
@@ -344,18 +344,18 @@ module _ (p : PlanParts) (ts : List Triangle) (xs : List HalfEdge) (w : AreOfGoo
   complete {ps = ps} {here = here} (no_node r last none e) front row q same tells begins rest back answered = at_none front row q rest here back (subst (λ (s : Portal). HasNoNode (map_of p) ts w.labels a s) (last_same ps front r q same last) none) e answered
   complete {ps = ps} {here = here} (skipped r k has empty e) front row q same tells begins rest back answered = at_skipped front row q rest here back (node_at front q k (has_at ps front r q k same has)) tells begins (subst (λ (us : List Portal). IsEmptyRow (map_of p) Claims Keeps us) same empty) e answered
   complete {ps = ps} {here = here} (blocked r k d has some blocks e) front row q same tells begins rest back answered =
-      at_blocked front row q d rest here back (node_at front q k (has_at ps front r q k same has)) tells (subst (λ (us : List Portal). HasRow (map_of p) Claims Keeps us) same some) (subst (λ (us : List Portal). Blocks (end_points (map_of p) us) d) same blocks) e answered
+      at_blocked front row q d rest here back (node_at front q k (has_at ps front r q k same has)) tells (subst (λ (us : List Portal). HasRow (map_of p) Claims Keeps us) same some) (subst (λ (us : List Portal). BlocksEnds (end_points (map_of p) us) d) same blocks) e answered
   complete {ps = ps} {here = here} (open_node r k t left right has some enters third one other e) front row q same tells begins rest back answered =
       let is : r ≡ q = last_same ps front r q same has.last in
       let n : NodeAt q = node_at front q k (has_at ps front r q k same has) in
-      let further : List ℕ = left_of row (mask_at ms n.i) in
-      let tells_on : AreBitsOf further (In (front ++ q ∷ [])) = row_on front q row (mask_at ms n.i) (mask_is q n.i n.is_asked) tells in
+      let further : List ℕ = row_left row (mask_of_edge ms n.i) in
+      let tells_on : AreBitsOf further (In (front ++ q ∷ [])) = row_on front q row (mask_of_edge ms n.i) (mask_is q n.i n.is_asked) tells in
       let left_on : HasRow (map_of p) Claims Keeps (front ++ q ∷ []) = subst (λ (us : List Portal). HasRow (map_of p) Claims Keeps us) same some in
       let behind_right : AreAnswered xs ms a (asks (front ++ q ∷ []) further (way_out r Right t) ++ rest) (right ++ back) [] = complete other (front ++ q ∷ []) further (way_out r Right t) (ap (λ (us : List Portal). us ++ way_out r Right t ∷ []) same) tells_on (inl left_on) rest back answered in
       let behind_left : AreAnswered xs ms a (asks (front ++ q ∷ []) further (way_out r Left t) ++ (asks (front ++ q ∷ []) further (way_out r Right t) ++ rest)) (left ++ (right ++ back)) [] = complete one (front ++ q ∷ []) further (way_out r Left t) (ap (λ (us : List Portal). us ++ way_out r Left t ∷ []) same) tells_on (inl left_on)
       (asks (front ++ q ∷ []) further (way_out r Right t) ++ rest) (right ++ back) behind_right in
       at_open front row q t rest here back left right n tells left_on (subst (λ (us : List Portal). EntersNone (map_of p) ts w.labels Claims Keeps us) same enters) (ap (λ (s : Portal). apex ts s) (sym is) ∙ third) e
-      (subst (λ (s : Portal). AreAnswered xs ms a (asks (front ++ q ∷ []) (left_of row (mask_at ms n.i)) (way_out s Left t) ++ (asks (front ++ q ∷ []) (left_of row (mask_at ms n.i)) (way_out s Right t) ++ rest)) (left ++ (right ++ back)) []) is behind_left)
+      (subst (λ (s : Portal). AreAnswered xs ms a (asks (front ++ q ∷ []) (row_left row (mask_of_edge ms n.i)) (way_out s Left t) ++ (asks (front ++ q ∷ []) (row_left row (mask_of_edge ms n.i)) (way_out s Right t) ++ rest)) (left ++ (right ++ back)) []) is behind_left)
 
   -- ---- roots
 
@@ -385,7 +385,7 @@ module _ (p : PlanParts) (ts : List Triangle) (xs : List HalfEdge) (w : AreOfGoo
       of : MapLine → Portal
       of x = record { left = (side_edge (map_of p) x (not s.left)).from; right = (side_edge (map_of p) x (not s.left)).to }
 
-  no_answer : (n : Node) (rs : List Pending) → Answers xs ms a [] n rs → ⊥
+  no_answer : (n : Node) (rs : List Pending) → AnswersFirstInRow xs ms a [] n rs → ⊥
   no_answer Open rs answer = nothing_left answer.0 answer.1 answer.3
   no_answer (Blocked e) rs answer = nothing_left answer.0 answer.1 answer.3
 

@@ -5,18 +5,18 @@ use Rattle.sight_names.specs.Splitting.{EndPoints}
 use Rattle.mesh_shape.specs.declared.half_edges.table.HalfEdge.{HalfEdge}
 use Rattle.cert_checker.specs.declared.tree_judge.roots.Root.{Root}
 use Rattle.cert_checker.specs.declared.tree_judge.trees.Frame.{Frame}
-use Rattle.cert_checker.specs.TreeJudge.Path.{portal_ends, path_ends, PutsAt, IsChain}
+use Rattle.cert_checker.specs.TreeJudge.Path.{portal_ends, path_ends, PutsAt, IsRootChain}
 use Rattle.math_base.proofs.Options.{some_is_not_none}
 use Rattle.gate_floods.specs.RowJudge.Masks.{MaskRows}
 use Rattle.gate_floods.specs.declared.row_judge.follow.Wait.{Wait}
 use Rattle.gate_floods.specs.declared.row_judge.follow.RowFollow.{RowFollow}
-use Rattle.gate_floods.specs.RowJudge.Words.{row_at}
+use Rattle.gate_floods.specs.RowJudge.Words.{row_in_words}
 use Rattle.gate_floods.specs.RowJudge.Asked.{Pending, pending_way, pending_roots, way_asked}
-use Rattle.gate_floods.specs.RowJudge.Path.{AsksRoot, waiting_way, AreWaiting, IsAt, with_asked, TakesNext, EntersThrough, StandsBefore}
+use Rattle.gate_floods.specs.RowJudge.Path.{AsksRoot, waiting_way, AreWaiting, IsRowWalkAt, with_asked, TakesNext, EntersThrough, StandsBefore}
 
 -- ---- the first portals and rows alone count
 
-pub row_same : (rows other : List ℕ) (w at r : ℕ) → at ≤ r → take (r + w) other ≡ take (r + w) rows → row_at other w at ≡ row_at rows w at
+pub row_same : (rows other : List ℕ) (w at r : ℕ) → at ≤ r → take (r + w) other ≡ take (r + w) rows → row_in_words other w at ≡ row_in_words rows w at
 row_same rows other w at r l e = sym (drop-take at w other) ∙ ap (drop at) (sym (take-take (at + w) (r + w) other (omega (arith, l))) ∙ ap (take (at + w)) e ∙ take-take (at + w) (r + w) rows (omega (arith, l))) ∙ drop-take at w rows
 
 pub waiting_same : (path other : List Frame) (rows rows' : List ℕ) (w : ℕ) (waits : List Wait) (d r : ℕ) (ps : List Pending) → take d other ≡ take d path → take (r + w) rows' ≡ take (r + w) rows → AreWaiting path rows w waits d r ps → AreWaiting other rows' w waits d r ps
@@ -73,13 +73,13 @@ module _ (ms : MaskRows) (first : List ℕ) (roots : List Root) (path : List Fra
   pub takes_way : (waits front : List Wait) (old : RowFollow) (w : Wait) → waits ≡ front ++ w ∷ [] → TakesNext ms first roots path rows waits old front (on_way old w) (Some w.way)
   takes_way waits front old w is = record { next = λ es ws c base h d r. go es ws c base h d r }
     where
-      go : (es : List ℕ) (ws : List Pending) → IsChain roots old.root es → row_at rows ms.width 0 ≡ first → AreWaiting path rows ms.width waits old.depth old.row ws → old.depth ≤ length path → old.row + ms.width ≤ length rows
-          → IsAt ms first roots path rows front (with_asked (on_way old w) (Some w.way)) (ws ++ pending_roots ms first es)
+      go : (es : List ℕ) (ws : List Pending) → IsRootChain roots old.root es → row_in_words rows ms.width 0 ≡ first → AreWaiting path rows ms.width waits old.depth old.row ws → old.depth ≤ length path → old.row + ms.width ≤ length rows
+          → IsRowWalkAt ms first roots path rows front (with_asked (on_way old w) (Some w.way)) (ws ++ pending_roots ms first es)
       go es [] c base h d r = absurd (not_nil front w (sym h ∙ is))
       go es (p ∷ ws) c base (others, x, split, low, low_too, this, more) d r =
           let same = last_same others front x w (sym split ∙ is) in
-          subst (λ (y : Wait). IsAt ms first roots path rows front (with_asked (on_way old y) (Some y.way)) (p ∷ (ws ++ pending_roots ms first es))) same.1
-          (subst (λ (ys : List Wait). IsAt ms first roots path rows ys (with_asked (on_way old x) (Some x.way)) (p ∷ (ws ++ pending_roots ms first es))) same.0 (record {
+          subst (λ (y : Wait). IsRowWalkAt ms first roots path rows front (with_asked (on_way old y) (Some y.way)) (p ∷ (ws ++ pending_roots ms first es))) same.1
+          (subst (λ (ys : List Wait). IsRowWalkAt ms first roots path rows ys (with_asked (on_way old x) (Some x.way)) (p ∷ (ws ++ pending_roots ms first es))) same.0 (record {
             es = es;
             ways = ws;
             chain = c;
@@ -96,10 +96,10 @@ module _ (ms : MaskRows) (first : List ℕ) (roots : List Root) (path : List Fra
   abbrev pub on_root : RowFollow → Option ℕ → RowFollow
   on_root old next = record { depth = 0; row = 0; root = next; asked = old.asked }
 
-  pub takes_root : (waits new : List Wait) (old : RowFollow) (row : List ℕ) (asked next : Option ℕ) → waits ≡ [] → new ≡ [] → row ≡ row_at rows ms.width 0 → ((es : List ℕ) → IsChain roots old.root es → AsksRoot ms row roots es asked next) → TakesNext ms first roots path rows waits old new (on_root old next) asked
+  pub takes_root : (waits new : List Wait) (old : RowFollow) (row : List ℕ) (asked next : Option ℕ) → waits ≡ [] → new ≡ [] → row ≡ row_in_words rows ms.width 0 → ((es : List ℕ) → IsRootChain roots old.root es → AsksRoot ms row roots es asked next) → TakesNext ms first roots path rows waits old new (on_root old next) asked
   takes_root waits new old row asked next none gone same asks = record { next = λ es ws c base h d r. go es ws c base h d r }
     where
-      by : (es rest : List ℕ) → IsChain roots next rest → pending_roots ms first es ≡ pending_way [] first asked ++ pending_roots ms first rest → (asked ≡ None → pending_roots ms first rest ≡ []) → row_at rows ms.width 0 ≡ first → ms.width ≤ length rows → IsAt ms first roots path rows new (with_asked (on_root old next) asked) (pending_roots ms first es)
+      by : (es rest : List ℕ) → IsRootChain roots next rest → pending_roots ms first es ≡ pending_way [] first asked ++ pending_roots ms first rest → (asked ≡ None → pending_roots ms first rest ≡ []) → row_in_words rows ms.width 0 ≡ first → ms.width ≤ length rows → IsRowWalkAt ms first roots path rows new (with_asked (on_root old next) asked) (pending_roots ms first es)
       by es rest c all last base room = record {
         es = rest;
         ways = [];
@@ -112,8 +112,8 @@ module _ (ms : MaskRows) (first : List ℕ) (roots : List Root) (path : List Fra
         last = λ n. all ∙ ap (λ (o : Option ℕ). pending_way [] first o ++ pending_roots ms first rest) n ∙ last n;
       }
 
-      go : (es : List ℕ) (ws : List Pending) → IsChain roots old.root es → row_at rows ms.width 0 ≡ first → AreWaiting path rows ms.width waits old.depth old.row ws → old.depth ≤ length path → old.row + ms.width ≤ length rows
-          → IsAt ms first roots path rows new (with_asked (on_root old next) asked) (ws ++ pending_roots ms first es)
+      go : (es : List ℕ) (ws : List Pending) → IsRootChain roots old.root es → row_in_words rows ms.width 0 ≡ first → AreWaiting path rows ms.width waits old.depth old.row ws → old.depth ≤ length path → old.row + ms.width ≤ length rows
+          → IsRowWalkAt ms first roots path rows new (with_asked (on_root old next) asked) (ws ++ pending_roots ms first es)
       go es [] c base h d r =
           let a = subst (λ (u : List ℕ). AsksRoot ms u roots es asked next) (same ∙ base) (asks es c) in
           by es a.rest a.chain a.all a.last base (omega (arith, r))
@@ -126,7 +126,7 @@ module _ (ms : MaskRows) (first : List ℕ) (roots : List Root) (path : List Fra
     ends = path_ends (take f.depth path)
 
     abbrev row : List ℕ
-    row = row_at rows ms.width f.row
+    row = row_in_words rows ms.width f.row
 
     -- with one of the ways, or none
     abbrev behind : Option ℕ → Option ℕ → List Pending → List Pending
@@ -153,7 +153,7 @@ module _ (ms : MaskRows) (first : List ℕ) (roots : List Root) (path : List Fra
 
     pub enters_none : (new : List Wait) (f_new : RowFollow) (asked : Option ℕ) → None ≡ way_asked xs ms source row x.left_way → None ≡ way_asked xs ms source row x.right_way → TakesNext ms first roots path rows waits f new f_new asked → EntersThrough xs ms source first roots path rows waits f x new f_new asked
     enters_none new f_new asked l r t = record {
-      next = λ es ws c base h d room. subst (IsAt ms first roots path rows new (with_asked f_new asked)) (λ i. behind (l i) (r i) (ws ++ pending_roots ms first es)) (t.next es ws c base h d room);
+      next = λ es ws c base h d room. subst (IsRowWalkAt ms first roots path rows new (with_asked f_new asked)) (λ i. behind (l i) (r i) (ws ++ pending_roots ms first es)) (t.next es ws c base h d room);
     }
 
   abbrev pub at_first : Option ℕ → RowFollow

@@ -7,15 +7,15 @@ use Rattle.sight_names.specs.Plan.{PlanParts, IsPlan}
 use Rattle.sight_names.specs.Points.{Edge}
 use Rattle.sight_names.specs.Sequence.{Portal}
 use Rattle.mesh_shape.specs.declared.half_edges.table.HalfEdge.{HalfEdge}
-use Rattle.mesh_shape.specs.HalfEdges.HalfEdges.{IsHalfEdge, portal_of}
+use Rattle.mesh_shape.specs.HalfEdges.HalfEdges.{IsHalfEdge, portal_into}
 use Rattle.gate_floods.specs.Gates.{IsGate, IsInMask, other_side}
 use Rattle.gate_floods.specs.declared.gate_masks.masks.Row.{Row}
 use Rattle.gate_floods.specs.GateMasks.Words.{AreBitsOf}
-use Rattle.gate_floods.specs.GateMasks.Masks.{AreMasks, IsLeftOut, mask_at}
+use Rattle.gate_floods.specs.GateMasks.Masks.{AreSideMasks, IsLeftOut, mask_of_side}
 
 -- the mask at the side by which one leaves who enters the half-edge
 abbrev pub mask_behind : List (Option Row) → HalfEdge → Option Row
-mask_behind masks x = option_and_then (λ s. mask_at masks (other_side s)) x.entered
+mask_behind masks x = option_and_then (λ s. mask_of_side masks (other_side s)) x.entered
 
 -- the portal is a gate, and the row is its mask, whatever gate it is; without a row the portal is no gate
 abbrev pub IsMaskBehind : Map → (ℕ → ℕ → Type 0) → Portal → Option Row → Type 0
@@ -25,4 +25,4 @@ IsMaskBehind m Claims p (Some row) = ((b : ℕ) × (d : ℕ) × IsGate m b d p) 
 -- what a half-edge of a good mesh finds is the mask of its portal
 abbrev pub MasksAreFoundBehind : Type 0
 MasksAreFoundBehind = (p : PlanParts) (ts : List Triangle) (labels : List (Option ℕ)) (xs : List HalfEdge) (joined : List Row) (masks : List (Option Row)) (e : Edge) (x : HalfEdge) → IsPlan p → IsGoodMesh (map_of p) ts labels
-    → AreMasks (map_of p) (IsLeftOut joined) masks → IsHalfEdge p ts labels xs e x → x.solid ≡ false → IsMaskBehind (map_of p) (IsLeftOut joined) (portal_of x) (mask_behind masks x)
+    → AreSideMasks (map_of p) (IsLeftOut joined) masks → IsHalfEdge p ts labels xs e x → x.solid ≡ false → IsMaskBehind (map_of p) (IsLeftOut joined) (portal_into x) (mask_behind masks x)

@@ -11,12 +11,12 @@ use Rattle.gate_floods.specs.declared.gate_masks.gates.Gates.{Gates}
 
 -- ---- the gate at a side
 
-abbrev pub portal_of : Gate → Portal
-portal_of e = record { left = e.left; right = e.right }
+abbrev pub portal_of_gate : Gate → Portal
+portal_of_gate e = record { left = e.left; right = e.right }
 
 -- one of the map's gates, with its ends
 pub record IsGateOf (m : Map) (e : Gate) : Type 0 where
-  pub gate : IsGate m e.near e.far (portal_of e)
+  pub gate : IsGate m e.near e.far (portal_of_gate e)
   pub side : gate.side ≡ e.side
   pub left_at : e.left_at ≡ place m e.left
   pub right_at : e.right_at ≡ place m e.right
@@ -36,9 +36,9 @@ abbrev pub crossing_of : Line → Bool → Option Pair
 crossing_of l side = if l.solid then None else crossing_between side l.right l.left
 
 -- the left and the right end for one who leaves by the side
-abbrev pub ends_of : Line → Bool → Pair
-ends_of l true = record { a = l.b; b = l.a }
-ends_of l false = record { a = l.a; b = l.b }
+abbrev pub ends_by_side : Line → Bool → Pair
+ends_by_side l true = record { a = l.b; b = l.a }
+ends_by_side l false = record { a = l.a; b = l.b }
 
 -- ---- all gates
 
@@ -47,22 +47,22 @@ abbrev pub AreGates : Map → List Gate → Type 0
 AreGates m es = (e : Gate) → Contains es e ↔ IsGateOf m e
 
 -- one more, if there is one
-abbrev pub IsAdded : Option Gate → List Gate → List Gate → Type 0
-IsAdded gate old new = (e : Gate) → Contains new e ↔ (Contains old e ⊎ (gate ≡ Some e))
+abbrev pub IsGateAdded : Option Gate → List Gate → List Gate → Type 0
+IsGateAdded gate old new = (e : Gate) → Contains new e ↔ (Contains old e ⊎ (gate ≡ Some e))
 
 -- the gates before place i are those out of sectors before c
-pub record IsStart (es : List Gate) (c i : ℕ) : Type 0 where
+pub record IsGateStart (es : List Gate) (c i : ℕ) : Type 0 where
   pub within : i ≤ length es
   pub before : (k : ℕ) (e : Gate) → k < i → slice_get es k ≡ Some e → e.near < c
   pub from : (k : ℕ) (e : Gate) → i ≤ k → slice_get es k ≡ Some e → c ≤ e.near
 
-abbrev pub AreStarts : List Gate → List ℕ → Type 0
-AreStarts es starts = (c i : ℕ) → slice_get starts c ≡ Some i → IsStart es c i
+abbrev pub AreGateStarts : List Gate → List ℕ → Type 0
+AreGateStarts es starts = (c i : ℕ) → slice_get starts c ≡ Some i → IsGateStart es c i
 
 -- a start for each sector, and one behind the last
-pub record IsIndexed (gs : Gates) : Type 0 where
+pub record AreGatesIndexed (gs : Gates) : Type 0 where
   pub each : length gs.starts.items ≡ gs.sectors + 1
-  pub starts : AreStarts gs.gates.items gs.starts.items
+  pub starts : AreGateStarts gs.gates.items gs.starts.items
   pub within : (e : Gate) → Contains gs.gates.items e → e.far < gs.sectors
 
 -- the gates out of one sector

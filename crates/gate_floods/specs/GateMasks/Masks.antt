@@ -10,16 +10,16 @@ use Rattle.gate_floods.specs.GateMasks.Words.{HasBit, AreBitsOf}
 use Rattle.gate_floods.specs.GateMasks.Flood.{LiesBeyond}
 
 -- sector k has its bit in the row of sector f
-abbrev pub IsIn : List Row → ℕ → ℕ → Type 0
-IsIn rows f k = (r : Row) × (slice_get rows f ≡ Some r) × HasBit r.words.items k
+abbrev pub IsInRowOf : List Row → ℕ → ℕ → Type 0
+IsInRowOf rows f k = (r : Row) × (slice_get rows f ≡ Some r) × HasBit r.words.items k
 
 -- it has none, or f has no row
 abbrev pub IsLeftOut : List Row → ℕ → ℕ → Type 0
-IsLeftOut rows f k = ¬ IsIn rows f k
+IsLeftOut rows f k = ¬ IsInRowOf rows f k
 
 -- the bits are those of what lies beyond the gate and is joined with its far sector
-abbrev pub IsMaskOf : List Gate → List Row → Gate → List ℕ → Type 0
-IsMaskOf es joined e words = AreBitsOf words (λ c. LiesBeyond es (IsIn joined e.near) e c × IsIn joined e.far c)
+abbrev pub IsGateMask : List Gate → List Row → Gate → List ℕ → Type 0
+IsGateMask es joined e words = AreBitsOf words (λ c. LiesBeyond es (IsInRowOf joined e.near) e c × IsInRowOf joined e.far c)
 
 -- the row is the mask of the gate at the side; there is none exactly where no gate is at it
 abbrev pub IsMaskAt : Map → (ℕ → ℕ → Type 0) → Side → Option Row → Type 0
@@ -28,15 +28,15 @@ IsMaskAt m Claims s (Some row) = ((b : ℕ) × (d : ℕ) × (p : Portal) × (gat
     × ((b d : ℕ) (p : Portal) (gate : IsGate m b d p) → gate.side ≡ s → AreBitsOf row.words.items (IsInMask m Claims b d p))
 
 -- the place of a side in a list with two entries for each line
-abbrev pub place_at : Side → ℕ
-place_at s = s.line * 2 + (if s.left then 1 else 0)
+abbrev pub side_place : Side → ℕ
+side_place s = s.line * 2 + (if s.left then 1 else 0)
 
 -- the mask of the gate at a side, in a list that has for each line the one at its right side and the one at its left side
-abbrev pub mask_at : List (Option Row) → Side → Option Row
-mask_at masks s = option_and_then (λ o. o) (slice_get masks (place_at s))
+abbrev pub mask_of_side : List (Option Row) → Side → Option Row
+mask_of_side masks s = option_and_then (λ o. o) (slice_get masks (side_place s))
 
-abbrev pub AreMasks : Map → (ℕ → ℕ → Type 0) → List (Option Row) → Type 0
-AreMasks m Claims masks = (s : Side) → IsMaskAt m Claims s (mask_at masks s)
+abbrev pub AreSideMasks : Map → (ℕ → ℕ → Type 0) → List (Option Row) → Type 0
+AreSideMasks m Claims masks = (s : Side) → IsMaskAt m Claims s (mask_of_side masks s)
 
 -- the mask is there, and these are its words
 abbrev pub HasWords : Option Row → List ℕ → Type 0

@@ -17,13 +17,13 @@ both_words (x ∷ xs) [] = 0 ∷ both_words xs []
 both_words (x ∷ xs) (y ∷ ys) = bit_and x y ∷ both_words xs ys
 
 -- a bit of some word is set
-abbrev pub has_bit : List ℕ → Bool
-has_bit [] = false
-has_bit (x ∷ xs) = not (x % 2 ^ 64 == 0) || has_bit xs
+abbrev pub has_bit_in_words : List ℕ → Bool
+has_bit_in_words [] = false
+has_bit_in_words (x ∷ xs) = not (x % 2 ^ 64 == 0) || has_bit_in_words xs
 
 -- the row of so many words at this place
-abbrev pub row_at : List ℕ → ℕ → ℕ → List ℕ
-row_at words width at = take width (drop at words)
+abbrev pub row_in_words : List ℕ → ℕ → ℕ → List ℕ
+row_in_words words width at = take width (drop at words)
 
 -- the sector isn't in the row; none never is
 abbrev pub is_away : List ℕ → Option ℕ → Bool

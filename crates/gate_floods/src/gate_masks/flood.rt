@@ -2,8 +2,8 @@
 
 ghost use Rattle.std.specs.Prelude.{◌≡◌, ◌+◌, ◌<◌, ◌↔◌, ℕ, List, Contains, IfOk, OnOk, length};
 ghost use Rattle.gate_floods.specs.declared.gate_masks.gate.Gate.{Gate};
-ghost use Rattle.gate_floods.specs.GateMasks.Gates.{IsIndexed};
-ghost use Rattle.gate_floods.specs.GateMasks.Flood.{AreWaysOn, IsFlood, IsPut, IsStep, LiesBeyond};
+ghost use Rattle.gate_floods.specs.GateMasks.Gates.{AreGatesIndexed};
+ghost use Rattle.gate_floods.specs.GateMasks.Flood.{AreWaysOn, IsFlood, IsQueued, IsFloodStep, LiesBeyond};
 ghost use Rattle.gate_floods.specs.GateMasks.Words.{HasBit};
 
 use crate::gate_masks::following::may_follow;
@@ -24,7 +24,7 @@ impl Flood {
     /// Takes a sector in that isn't marked.
     fn put(&mut self, sector: u16) -> Result<(), Memory>
         requires { sector < length self.old.marks.items }
-        ensures { OnOk result (IsPut sector self.old.marks.items self.old.queue.items self.new.marks.items self.new.queue.items) }
+        ensures { OnOk result (IsQueued sector self.old.marks.items self.old.queue.items self.new.marks.items self.new.queue.items) }
     {
         self.marks[sector as usize] = true;
         self.queue.push(sector)?;
@@ -34,7 +34,7 @@ impl Flood {
     /// Takes the sector behind the next gate in, if that one may follow and the sector isn't marked.
     fn step(&mut self, gate: Gate, next: Gate) -> Result<(), Memory>
         requires { next.far < length self.old.marks.items }
-        ensures { OnOk result (IsStep gate next self.old.marks.items self.old.queue.items self.new.marks.items self.new.queue.items) }
+        ensures { OnOk result (IsFloodStep gate next self.old.marks.items self.old.queue.items self.new.marks.items self.new.queue.items) }
     {
         if self.marks[next.far as usize] {
             return Ok(());
@@ -48,7 +48,7 @@ impl Flood {
 
     /// Goes on from the sector at this place of the queue, if that is one of those seen.
     fn settle(&mut self, gates: &Gates, gate: Gate, seen: &[u64], head: usize) -> Result<(), Memory>
-        requires indexed { IsIndexed gates.now }
+        requires indexed { AreGatesIndexed gates.now }
         requires len { length self.old.marks.items ≡ gates.now.sectors }
         requires head { head < length self.old.queue.items }
         requires flood { IsFlood gates.now.gates.items (HasBit seen.now) gate self.old.marks.items self.old.queue.items head }
@@ -65,7 +65,7 @@ impl Flood {
 
 /// The gates out of the sector, if it is one of those seen.
 fn ways_on<'a>(gates: &'a Gates, seen: &[u64], sector: u16) -> &'a [Gate]
-    requires indexed { IsIndexed gates.now }
+    requires indexed { AreGatesIndexed gates.now }
     requires within { sector < gates.now.sectors }
     ensures { AreWaysOn gates.now.gates.items (HasBit seen.now) sector result.now }
 {
@@ -91,7 +91,7 @@ fn begun(alloc: Global, sectors: u16, gate: Gate) -> Result<Flood, Memory>
 
 /// The sectors that lie beyond the gate, each once, in the order in which a flood through those seen comes to them.
 pub fn beyond(alloc: Global, gates: &Gates, gate: Gate, seen: &[u64]) -> Result<Vec<u16>, Memory>
-    requires indexed { IsIndexed gates.now }
+    requires indexed { AreGatesIndexed gates.now }
     requires far { gate.far < gates.now.sectors }
     ensures within { IfOk result (λ v. (c : ℕ) → Contains v.items c → c < gates.now.sectors) }
     ensures beyond { IfOk result (λ v. (c : ℕ) → Contains v.items c ↔ LiesBeyond gates.now.gates.items (HasBit seen.now) gate c) }

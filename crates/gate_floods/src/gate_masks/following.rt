@@ -2,7 +2,7 @@
 
 ghost use Rattle.std.specs.Prelude.{◌<ℤ◌, ◌↔◌, IsTrue, pos};
 ghost use Rattle.geom_exact.specs.Formulas.{turn_of};
-ghost use Rattle.gate_floods.specs.GateMasks.Following.{Follows};
+ghost use Rattle.gate_floods.specs.GateMasks.Following.{GateFollows};
 
 use crate::gate_masks::gate::Gate;
 use geom_exact::turn;
@@ -24,7 +24,7 @@ fn is_in_back(gate: Gate, at: Pt) -> bool
 
 /// Whether an end of the next gate is in front of this one, and an end of this one in the back of the next.
 pub fn may_follow(gate: Gate, next: Gate) -> bool
-    ensures { IsTrue result ↔ Follows gate next }
+    ensures { IsTrue result ↔ GateFollows gate next }
 {
     (is_in_front(gate, next.left_at) || is_in_front(gate, next.right_at))
         && (is_in_back(next, gate.left_at) || is_in_back(next, gate.right_at))

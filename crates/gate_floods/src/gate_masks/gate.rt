@@ -3,7 +3,7 @@
 ghost use Rattle.std.specs.Prelude.{◌≡◌, ◌↔◌, Some};
 ghost use Rattle.sight_names.specs.Map.{map_of};
 ghost use Rattle.gate_floods.specs.declared.gate_masks.gate.Gate.{Gate};
-ghost use Rattle.gate_floods.specs.GateMasks.Gates.{crossing_of, ends_of, IsGateOf};
+ghost use Rattle.gate_floods.specs.GateMasks.Gates.{crossing_of, ends_by_side, IsGateOf};
 
 use sight_names::{Line, Pair, Plan, Pt, Side};
 
@@ -47,7 +47,7 @@ fn crossing(line: Line, left: bool) -> Option<Pair>
 
 /// The left and the right end of the line for one who leaves by this side.
 fn ends(line: Line, left: bool) -> Pair
-    ensures { result ≡ ends_of line left }
+    ensures { result ≡ ends_by_side line left }
 {
     if left {
         Pair {

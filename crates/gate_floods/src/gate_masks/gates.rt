@@ -4,7 +4,7 @@ ghost use Rattle.std.specs.Prelude.{◌≡◌, ◌+◌, ◌<◌, ◌≤◌, IfOk
 ghost use Rattle.std.specs.List.Sorted.{IsPermutation, IsNonDecreasingBy};
 ghost use Rattle.sight_names.specs.Map.{map_of};
 ghost use Rattle.gate_floods.specs.declared.gate_masks.gate.Gate.{Gate};
-ghost use Rattle.gate_floods.specs.GateMasks.Gates.{IsAdded, AreGates, AreGatesFrom, AreStarts, IsIndexed, IsStart};
+ghost use Rattle.gate_floods.specs.GateMasks.Gates.{IsGateAdded, AreGates, AreGatesFrom, AreGateStarts, AreGatesIndexed, IsGateStart};
 
 use crate::gate_masks::gate::{Gate, gate_at};
 use sight_names::{Memory, Plan, Side};
@@ -21,7 +21,7 @@ pub struct Gates {
 
 /// Adds the gate, if there is one.
 fn add_gate(gates: &mut Vec<Gate>, gate: Option<Gate>) -> Result<(), Memory>
-    ensures { OnOk result (IsAdded gate gates.old.items gates.new.items) }
+    ensures { OnOk result (IsGateAdded gate gates.old.items gates.new.items) }
 {
     if let Some(gate) = gate {
         gates.push(gate)?;
@@ -56,7 +56,7 @@ fn in_order(mut gates: Vec<Gate>) -> Result<Vec<Gate>, Memory>
 /// The place of the first gate out of this sector or a later one.
 fn start_of(gates: &[Gate], sector: u32) -> usize
     requires { IsNonDecreasingBy (λ (e : Gate). e.near) gates.now }
-    ensures { IsStart gates.now sector result }
+    ensures { IsGateStart gates.now sector result }
 {
     gates.partition_point(|gate| (gate.near as u32) < sector)
 }
@@ -65,7 +65,7 @@ fn start_of(gates: &[Gate], sector: u32) -> usize
 fn starts_of(alloc: Global, gates: &[Gate], sectors: u16) -> Result<Vec<usize>, Memory>
     requires { IsNonDecreasingBy (λ (e : Gate). e.near) gates.now }
     ensures len { IfOk result (λ v. length v.items ≡ sectors + 1) }
-    ensures starts { IfOk result (λ v. AreStarts gates.now v.items) }
+    ensures starts { IfOk result (λ v. AreGateStarts gates.now v.items) }
 {
     let mut starts = Vec::new(alloc);
     for sector in 0..sectors as u32 + 1 {
@@ -86,7 +86,7 @@ fn between(gates: &[Gate], start: usize, end: usize) -> &[Gate]
 impl Gates {
     /// The gates of the plan.
     pub fn of(alloc: Global, plan: &Plan) -> Result<Gates, Memory>
-        ensures indexed { IfOk result IsIndexed }
+        ensures indexed { IfOk result AreGatesIndexed }
         ensures sectors { IfOk result (λ gs. gs.sectors ≡ plan.now.sectors) }
         ensures gates { IfOk result (λ gs. AreGates (map_of plan.now) gs.gates.items) }
     {
@@ -101,7 +101,7 @@ impl Gates {
 
     /// The gates out of this sector.
     pub fn out_of(&self, sector: u16) -> &[Gate]
-        requires indexed { IsIndexed self.now }
+        requires indexed { AreGatesIndexed self.now }
         requires within { sector < self.now.sectors }
         ensures { AreGatesFrom self.now.gates.items sector result.now }
     {

@@ -5,8 +5,8 @@ ghost use Rattle.sight_names.specs.Map.{map_of};
 ghost use Rattle.gate_floods.specs.Gates.{other_side as other_side_of};
 ghost use Rattle.gate_floods.specs.GateMasks.Behind.{mask_behind};
 ghost use Rattle.gate_floods.specs.GateMasks.Words.{HasBit, AreBitsOf};
-ghost use Rattle.gate_floods.specs.GateMasks.Gates.{AreGates, IsIndexed};
-ghost use Rattle.gate_floods.specs.GateMasks.Masks.{AreMasks, HasWords, IsIn, IsLeftOut, IsMaskAt, IsMaskOf, mask_at, place_at};
+ghost use Rattle.gate_floods.specs.GateMasks.Gates.{AreGates, AreGatesIndexed};
+ghost use Rattle.gate_floods.specs.GateMasks.Masks.{AreSideMasks, HasWords, IsInRowOf, IsLeftOut, IsMaskAt, IsGateMask, mask_of_side, side_place};
 
 use crate::gate_masks::flood::beyond;
 use crate::gate_masks::gate::{Gate, gate_at};
@@ -41,7 +41,7 @@ impl Model for Masks {
 
 /// The words of the row with this number, none where there is none.
 fn words_of(rows: &[Row], number: u16) -> &[u64]
-    ensures { (c : ℕ) → HasBit result.now c ↔ IsIn rows.now number c }
+    ensures { (c : ℕ) → HasBit result.now c ↔ IsInRowOf rows.now number c }
 {
     match rows.get(number as usize) {
         Some(row) => row.words.as_slice(),
@@ -51,7 +51,7 @@ fn words_of(rows: &[Row], number: u16) -> &[u64]
 
 /// The place of a side in a list with two entries for each line.
 fn place_of(side: Side) -> usize
-    ensures { result ≡ place_at side }
+    ensures { result ≡ side_place side }
 {
     let left = if side.left { 1 } else { 0 };
     side.line as usize * 2 + left
@@ -111,9 +111,9 @@ fn kept(alloc: Global, count: u16, numbers: &[u16], other: &[u64]) -> Result<Row
 
 /// The mask of a gate.
 fn mask_of(alloc: Global, gates: &Gates, joined: &[Row], gate: Gate) -> Result<Row, Memory>
-    requires indexed { IsIndexed gates.now }
+    requires indexed { AreGatesIndexed gates.now }
     requires far { gate.far < gates.now.sectors }
-    ensures { IfOk result (λ row. IsMaskOf gates.now.gates.items joined.now gate row.words.items) }
+    ensures { IfOk result (λ row. IsGateMask gates.now.gates.items joined.now gate row.words.items) }
 {
     let seen = words_of(joined, gate.near);
     let numbers = beyond(alloc, gates, gate, seen)?;
@@ -130,7 +130,7 @@ fn mask_at_side(
     joined: &[Row],
     side: Side,
 ) -> Result<Option<Row>, Memory>
-    requires indexed { IsIndexed gates.now }
+    requires indexed { AreGatesIndexed gates.now }
     requires sectors { gates.now.sectors ≡ plan.now.sectors }
     requires gates { AreGates (map_of plan.now) gates.now.gates.items }
     ensures { IfOk result (IsMaskAt (map_of plan.now) (IsLeftOut joined.now) side) }
@@ -151,10 +151,10 @@ fn masks_of(
     gates: &Gates,
     joined: &[Row],
 ) -> Result<Vec<Option<Row>>, Memory>
-    requires indexed { IsIndexed gates.now }
+    requires indexed { AreGatesIndexed gates.now }
     requires sectors { gates.now.sectors ≡ plan.now.sectors }
     requires gates { AreGates (map_of plan.now) gates.now.gates.items }
-    ensures { IfOk result (λ v. AreMasks (map_of plan.now) (IsLeftOut joined.now) v.items) }
+    ensures { IfOk result (λ v. AreSideMasks (map_of plan.now) (IsLeftOut joined.now) v.items) }
 {
     let mut masks = Vec::new(alloc);
     for k in 0..plan.lines().len() {
@@ -171,7 +171,7 @@ impl Masks {
     /// The masks of all gates of the plan, where a sector is claimed not to see another exactly if that one has no bit
     /// in its row.
     pub fn of(alloc: Global, plan: &Plan, joined: &[Row]) -> Result<Masks, Memory>
-        ensures { IfOk result (AreMasks (map_of plan.now) (IsLeftOut joined.now)) }
+        ensures { IfOk result (AreSideMasks (map_of plan.now) (IsLeftOut joined.now)) }
     {
         let gates = Gates::of(alloc, plan)?;
         let masks = masks_of(alloc, plan, &gates, joined)?;
@@ -180,7 +180,7 @@ impl Masks {
 
     /// The words of the mask of the gate at this side, None where no gate is there.
     pub fn at(&self, side: Side) -> Option<&[u64]>
-        ensures { MatchOption result (mask_at self.now side ≡ None) (λ words. HasWords (mask_at self.now side) words.now) }
+        ensures { MatchOption result (mask_of_side self.now side ≡ None) (λ words. HasWords (mask_of_side self.now side) words.now) }
     {
         let place = place_of(side);
         match self.masks.get(place) {

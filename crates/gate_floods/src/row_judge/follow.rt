@@ -2,7 +2,7 @@
 
 ghost use Rattle.std.specs.Prelude.{◌≡◌, ◌↔◌, ◌+◌, ◌<◌, ◌≤◌, ◌++◌, [], ◌∷◌, ℕ, List, Some as Given, IfOk, OnOk, IsTrue, length, not, slice_get, true, false};
 ghost use Rattle.block_evidence.specs.declared.sight_tree.Node.TheVariants.{Open, Blocked};
-ghost use Rattle.cert_checker.specs.TreeJudge.Path.{IsChain};
+ghost use Rattle.cert_checker.specs.TreeJudge.Path.{IsRootChain};
 ghost use Rattle.cert_checker.specs.TreeJudge.Roots.{first_at};
 ghost use Rattle.gate_floods.specs.RowJudge.Masks.{rows_of};
 ghost use Rattle.gate_floods.specs.RowJudge.Asked.{row_behind, way_asked as way_asked_of};
@@ -69,7 +69,7 @@ fn next_root(
     row: &[u64],
     root: Option<usize>,
 ) -> (Option<u32>, Option<usize>)
-    ensures { (es : List ℕ) → IsChain roots.now.roots.items root es → AsksRoot (rows_of masks.now) row.now roots.now.roots.items es result.0 result.1 }
+    ensures { (es : List ℕ) → IsRootChain roots.now.roots.items root es → AsksRoot (rows_of masks.now) row.now roots.now.roots.items es result.0 result.1 }
 {
     let mut at = root;
     for _ in 0..roots.len() {

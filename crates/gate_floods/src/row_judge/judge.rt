@@ -5,10 +5,10 @@ ghost use Rattle.sight_names.specs.Plan.{PlanParts};
 ghost use Rattle.sight_names.specs.Map.{map_of};
 ghost use Rattle.sight_names.specs.declared.names.Triangle.{Triangle};
 ghost use Rattle.cert_format.specs.Parts.{CertParts};
-ghost use Rattle.gate_floods.specs.Exact.{IsClaimed, IsOwned};
+ghost use Rattle.gate_floods.specs.Exact.{IsClaimedBlind, IsOwned};
 ghost use Rattle.gate_floods.specs.RowJudge.Masks.{rows_of};
-ghost use Rattle.gate_floods.specs.RowJudge.Judged.{tree_of, TellsTree};
-ghost use Rattle.gate_floods.specs.RowJudge.Laws.{IsGround, TellsByRows};
+ghost use Rattle.gate_floods.specs.RowJudge.Judged.{tree_with, TellsTree};
+ghost use Rattle.gate_floods.specs.RowJudge.Laws.{IsRowGround, TellsByRows};
 
 use crate::row_judge::masks::Masks;
 use crate::row_judge::walk::RowWalk;
@@ -27,7 +27,7 @@ fn first_wrong(
     nodes: &Nodes,
 ) -> Result<Option<u64>, Memory>
     requires { length row.now ≡ masks.now.width }
-    ensures { IfOk result (TellsTree terrain.now.edges.now (rows_of masks.now) row.now terrain.now.roots.now.roots.items terrain.now.roots.now.first.items (tree_of source nodes.now)) }
+    ensures { IfOk result (TellsTree terrain.now.edges.now (rows_of masks.now) row.now terrain.now.roots.now.roots.items terrain.now.roots.now.first.items (tree_with source nodes.now)) }
 {
     walk.begin(terrain, masks, source, row)?;
     let count = nodes.len();
@@ -53,7 +53,7 @@ pub fn judge_by_rows(
     nodes: &Nodes,
 ) -> Result<Option<u64>, Memory>
     requires { length row.now ≡ masks.now.width }
-    ensures { (p : PlanParts) (ts : List Triangle) (ls : List (Option ℕ)) (rank : ℕ → ℕ) (cert : CertParts) → IsGround p ts ls terrain.now.edges.now terrain.now.roots.now.roots.items terrain.now.roots.now.first.items (rows_of masks.now) (IsClaimed (map_of p) cert) (IsOwned rank (IsClaimed (map_of p) cert) source) row.now → source < p.sectors → IfOk result (TellsByRows (map_of p) ts ls terrain.now.edges.now (rows_of masks.now) (IsClaimed (map_of p) cert) (IsOwned rank (IsClaimed (map_of p) cert) source) row.now (tree_of source nodes.now)) }
+    ensures { (p : PlanParts) (ts : List Triangle) (ls : List (Option ℕ)) (rank : ℕ → ℕ) (cert : CertParts) → IsRowGround p ts ls terrain.now.edges.now terrain.now.roots.now.roots.items terrain.now.roots.now.first.items (rows_of masks.now) (IsClaimedBlind (map_of p) cert) (IsOwned rank (IsClaimedBlind (map_of p) cert) source) row.now → source < p.sectors → IfOk result (TellsByRows (map_of p) ts ls terrain.now.edges.now (rows_of masks.now) (IsClaimedBlind (map_of p) cert) (IsOwned rank (IsClaimedBlind (map_of p) cert) source) row.now (tree_with source nodes.now)) }
 {
     first_wrong(walk, terrain, masks, row, source, nodes)
 }

@@ -2,7 +2,7 @@
 
 ghost use Rattle.std.specs.Prelude.{◌≡◌};
 ghost use Rattle.gate_floods.specs.RowJudge.Masks.{rows_of};
-ghost use Rattle.gate_floods.specs.RowJudge.Asked.{leaves as leaves_of, mask_at, place_at};
+ghost use Rattle.gate_floods.specs.RowJudge.Asked.{leaves as leaves_of, mask_of_edge, mask_place};
 
 use crate::row_judge::words::{meet, meet_near, part};
 
@@ -17,7 +17,7 @@ pub struct Masks<'a> {
 /// Where the mask of this half-edge begins, if it is a gate.
 #[inline(always)]
 pub fn place_of(masks: &Masks<'_>, edge: u32) -> Option<u32>
-    ensures { result ≡ place_at masks.now.places.now edge }
+    ensures { result ≡ mask_place masks.now.places.now edge }
 {
     match masks.places.get(edge as usize) {
         Some(place) => *place,
@@ -28,7 +28,7 @@ pub fn place_of(masks: &Masks<'_>, edge: u32) -> Option<u32>
 /// Whether something is left of the row behind the half-edge. Only a gate's mask is looked at.
 #[inline(always)]
 pub fn leaves(masks: &Masks<'_>, row: &[u64], edge: u32) -> bool
-    ensures { result ≡ leaves_of row.now (mask_at (rows_of masks.now) edge) }
+    ensures { result ≡ leaves_of row.now (mask_of_edge (rows_of masks.now) edge) }
 {
     match place_of(masks, edge) {
         Some(place) => meet(row, part(masks.words, place as usize, masks.width)),
@@ -39,7 +39,7 @@ pub fn leaves(masks: &Masks<'_>, row: &[u64], edge: u32) -> bool
 /// The same, first by the word in which a row and a mask met last.
 #[inline(always)]
 pub fn leaves_near(masks: &Masks<'_>, row: &[u64], edge: u32, near: &mut usize) -> bool
-    ensures { result ≡ leaves_of row.now (mask_at (rows_of masks.now) edge) }
+    ensures { result ≡ leaves_of row.now (mask_of_edge (rows_of masks.now) edge) }
 {
     match place_of(masks, edge) {
         Some(place) => meet_near(row, part(masks.words, place as usize, masks.width), near),

@@ -5,10 +5,10 @@ ghost use Rattle.block_evidence.specs.declared.sight_tree.Node.TheVariants.{Open
 ghost use Rattle.block_evidence.specs.declared.sight_tree.Tree.{Tree as WalkTree};
 ghost use Rattle.cert_checker.specs.TreeJudge.Walked.{begun, with_node};
 ghost use Rattle.gate_floods.specs.RowJudge.Masks.{rows_of};
-ghost use Rattle.gate_floods.specs.RowJudge.Asked.{Answers, Pending, row_behind};
+ghost use Rattle.gate_floods.specs.RowJudge.Asked.{AnswersFirstInRow, Pending, row_behind};
 ghost use Rattle.gate_floods.specs.RowJudge.Words.{is_away};
 ghost use Rattle.certificates.specs.CertParts.Nodes.{TakesNodes};
-ghost use Rattle.gate_floods.specs.RowJudge.Judged.{AsksNothing, Follows, FollowsAt, IsFirstWrongFrom, IsWalked, IsWholeFrom, StandsAt};
+ghost use Rattle.gate_floods.specs.RowJudge.Judged.{AsksNothing, FollowsNodesInRow, FollowsAt, IsFirstWrongFrom, IsTreeWalkedInRow, IsWholeFrom, StandsAt};
 
 use crate::row_judge::follow::{
     RowFollow, Wait, answer, answer_blocked, answer_open, go_through, start,
@@ -139,7 +139,7 @@ impl RowWalk {
         row: &[u64],
     ) -> Result<(), Memory>
         requires { length row.now ≡ masks.now.width }
-        ensures { IfOk result (λ _. IsWalked terrain.now.edges.now (rows_of masks.now) row.now terrain.now.roots.now.roots.items terrain.now.roots.now.first.items (begun source) self.new) }
+        ensures { IfOk result (λ _. IsTreeWalkedInRow terrain.now.edges.now (rows_of masks.now) row.now terrain.now.roots.now.roots.items terrain.now.roots.now.first.items (begun source) self.new) }
     {
         put_first(&mut self.rows, row)?;
         self.source = source;
@@ -161,9 +161,9 @@ impl RowWalk {
         masks: &Masks<'_>,
         node: Node,
     ) -> Result<bool, Memory>
-        ensures answered { (row : List ℕ) (t : WalkTree) → IsWalked terrain.now.edges.now (rows_of masks.now) row terrain.now.roots.now.roots.items terrain.now.roots.now.first.items t self.old → IfOk result (λ yes. yes ≡ true → IsWalked terrain.now.edges.now (rows_of masks.now) row terrain.now.roots.now.roots.items terrain.now.roots.now.first.items (with_node node t) self.new) }
-        ensures refused { (row : List ℕ) (t : WalkTree) → IsWalked terrain.now.edges.now (rows_of masks.now) row terrain.now.roots.now.roots.items terrain.now.roots.now.first.items t self.old → IfOk result (λ yes. yes ≡ false → IsFirstWrongFrom terrain.now.edges.now (rows_of masks.now) row terrain.now.roots.now.roots.items terrain.now.roots.now.first.items (with_node node t) (length t.nodes)) }
-        ensures stands { (first : List ℕ) (ps qs : List Pending) → StandsAt (rows_of masks.now) first terrain.now.roots.now.roots.items self.old ps → Answers terrain.now.edges.now (rows_of masks.now) self.old.source ps node qs → IfOk result (λ yes. (yes ≡ true) × StandsAt (rows_of masks.now) first terrain.now.roots.now.roots.items self.new qs) }
+        ensures answered { (row : List ℕ) (t : WalkTree) → IsTreeWalkedInRow terrain.now.edges.now (rows_of masks.now) row terrain.now.roots.now.roots.items terrain.now.roots.now.first.items t self.old → IfOk result (λ yes. yes ≡ true → IsTreeWalkedInRow terrain.now.edges.now (rows_of masks.now) row terrain.now.roots.now.roots.items terrain.now.roots.now.first.items (with_node node t) self.new) }
+        ensures refused { (row : List ℕ) (t : WalkTree) → IsTreeWalkedInRow terrain.now.edges.now (rows_of masks.now) row terrain.now.roots.now.roots.items terrain.now.roots.now.first.items t self.old → IfOk result (λ yes. yes ≡ false → IsFirstWrongFrom terrain.now.edges.now (rows_of masks.now) row terrain.now.roots.now.roots.items terrain.now.roots.now.first.items (with_node node t) (length t.nodes)) }
+        ensures stands { (first : List ℕ) (ps qs : List Pending) → StandsAt (rows_of masks.now) first terrain.now.roots.now.roots.items self.old ps → AnswersFirstInRow terrain.now.edges.now (rows_of masks.now) self.old.source ps node qs → IfOk result (λ yes. (yes ≡ true) × StandsAt (rows_of masks.now) first terrain.now.roots.now.roots.items self.new qs) }
         ensures source { self.new.source ≡ self.old.source }
     {
         make_room(&mut self.path, self.follow.depth)?;
@@ -194,8 +194,8 @@ impl RowWalk {
         requires away { is_away (row_behind (rows_of masks.now) self.old.rows.items self.old.follow.row number) edge.now.sector ≡ true }
         requires room { self.old.follow.depth ≤ length self.old.path.items }
         requires row { self.old.follow.row + masks.now.width ≤ length self.old.rows.items }
-        ensures answered { (row : List ℕ) (t : WalkTree) → IsWalked terrain.now.edges.now (rows_of masks.now) row terrain.now.roots.now.roots.items terrain.now.roots.now.first.items t self.old → IfOk result (λ _. IsWalked terrain.now.edges.now (rows_of masks.now) row terrain.now.roots.now.roots.items terrain.now.roots.now.first.items (with_node Open t) self.new) }
-        ensures stands { (first : List ℕ) (ps qs : List Pending) → StandsAt (rows_of masks.now) first terrain.now.roots.now.roots.items self.old ps → Answers terrain.now.edges.now (rows_of masks.now) self.old.source ps Open qs → IfOk result (λ _. StandsAt (rows_of masks.now) first terrain.now.roots.now.roots.items self.new qs) }
+        ensures answered { (row : List ℕ) (t : WalkTree) → IsTreeWalkedInRow terrain.now.edges.now (rows_of masks.now) row terrain.now.roots.now.roots.items terrain.now.roots.now.first.items t self.old → IfOk result (λ _. IsTreeWalkedInRow terrain.now.edges.now (rows_of masks.now) row terrain.now.roots.now.roots.items terrain.now.roots.now.first.items (with_node Open t) self.new) }
+        ensures stands { (first : List ℕ) (ps qs : List Pending) → StandsAt (rows_of masks.now) first terrain.now.roots.now.roots.items self.old ps → AnswersFirstInRow terrain.now.edges.now (rows_of masks.now) self.old.source ps Open qs → IfOk result (λ _. StandsAt (rows_of masks.now) first terrain.now.roots.now.roots.items self.new qs) }
         ensures source { self.new.source ≡ self.old.source }
     {
         make_room(&mut self.path, self.follow.depth)?;
@@ -226,7 +226,7 @@ impl RowWalk {
         bytes: &'a [u8],
         count: u64,
     ) -> Result<Followed<'a>, Memory>
-        ensures { IfOk result (λ f. TakesNodes bytes.now count f.rest.now f.left (Follows terrain.now.edges.now (rows_of masks.now) terrain.now.roots.now.roots.items terrain.now.roots.now.first.items self.old self.new f.wrong)) }
+        ensures { IfOk result (λ f. TakesNodes bytes.now count f.rest.now f.left (FollowsNodesInRow terrain.now.edges.now (rows_of masks.now) terrain.now.roots.now.roots.items terrain.now.roots.now.first.items self.old self.new f.wrong)) }
     {
         follow_nodes(
             terrain,
@@ -244,8 +244,8 @@ impl RowWalk {
     /// Whether nothing is asked any more.
     pub fn is_done(&self, terrain: &Terrain<'_>, masks: &Masks<'_>) -> bool
         ensures idle { AsksNothing self.now → result ≡ true }
-        ensures whole { (row : List ℕ) (t : WalkTree) → IsWalked terrain.now.edges.now (rows_of masks.now) row terrain.now.roots.now.roots.items terrain.now.roots.now.first.items t self.now → result ≡ true → IsWholeFrom terrain.now.edges.now (rows_of masks.now) row terrain.now.roots.now.roots.items terrain.now.roots.now.first.items t }
-        ensures missing { (row : List ℕ) (t : WalkTree) → IsWalked terrain.now.edges.now (rows_of masks.now) row terrain.now.roots.now.roots.items terrain.now.roots.now.first.items t self.now → result ≡ false → IsFirstWrongFrom terrain.now.edges.now (rows_of masks.now) row terrain.now.roots.now.roots.items terrain.now.roots.now.first.items t (length t.nodes) }
+        ensures whole { (row : List ℕ) (t : WalkTree) → IsTreeWalkedInRow terrain.now.edges.now (rows_of masks.now) row terrain.now.roots.now.roots.items terrain.now.roots.now.first.items t self.now → result ≡ true → IsWholeFrom terrain.now.edges.now (rows_of masks.now) row terrain.now.roots.now.roots.items terrain.now.roots.now.first.items t }
+        ensures missing { (row : List ℕ) (t : WalkTree) → IsTreeWalkedInRow terrain.now.edges.now (rows_of masks.now) row terrain.now.roots.now.roots.items terrain.now.roots.now.first.items t self.now → result ≡ false → IsFirstWrongFrom terrain.now.edges.now (rows_of masks.now) row terrain.now.roots.now.roots.items terrain.now.roots.now.first.items t (length t.nodes) }
     {
         self.follow.asked.is_none()
     }

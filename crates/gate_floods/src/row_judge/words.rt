@@ -1,7 +1,7 @@
 //! Rows of bits in words, the least bit of each word first.
 
 ghost use Rattle.std.specs.Prelude.{◌≡◌, ◌+◌, ◌≤◌, true, take, length};
-ghost use Rattle.gate_floods.specs.RowJudge.Words.{both_words, has_bit, is_in, row_at, HasMet, IsCleared};
+ghost use Rattle.gate_floods.specs.RowJudge.Words.{both_words, has_bit_in_words, is_in, row_in_words, HasMet, IsCleared};
 
 /// Whether the number is in the row.
 #[inline(always)]
@@ -17,7 +17,7 @@ pub fn has(row: &[u64], number: u16) -> bool
 /// Whether a number is in both rows.
 #[inline(always)]
 pub fn meet(row: &[u64], mask: &[u64]) -> bool
-    ensures { result ≡ has_bit (both_words row.now mask.now) }
+    ensures { result ≡ has_bit_in_words (both_words row.now mask.now) }
 {
     for k in 0..row.len().min(mask.len()) {
         if row[k] & mask[k] != 0 {
@@ -30,7 +30,7 @@ pub fn meet(row: &[u64], mask: &[u64]) -> bool
 /// Whether a number is in both rows by this word. `false` says nothing.
 #[inline(always)]
 fn meet_at(row: &[u64], mask: &[u64], place: usize) -> bool
-    ensures { result ≡ true → has_bit (both_words row.now mask.now) ≡ true }
+    ensures { result ≡ true → has_bit_in_words (both_words row.now mask.now) ≡ true }
 {
     if place >= row.len() || place >= mask.len() {
         return false;
@@ -44,7 +44,7 @@ fn meet_at(row: &[u64], mask: &[u64], place: usize) -> bool
 /// Whether a number is in both rows, first by the word in which others met last: mostly they meet there.
 #[inline(always)]
 pub fn meet_near(row: &[u64], mask: &[u64], near: &mut usize) -> bool
-    ensures { result ≡ has_bit (both_words row.now mask.now) }
+    ensures { result ≡ has_bit_in_words (both_words row.now mask.now) }
 {
     if meet_at(row, mask, *near) {
         return true;
@@ -61,7 +61,7 @@ pub fn meet_near(row: &[u64], mask: &[u64], near: &mut usize) -> bool
 /// So many of the words from this place on, or as many as there are.
 #[inline(always)]
 pub fn part(words: &[u64], at: usize, width: usize) -> &[u64]
-    ensures { result.now ≡ row_at words.now width at }
+    ensures { result.now ≡ row_in_words words.now width at }
 {
     let behind = &words[at.min(words.len())..];
     &behind[..width.min(behind.len())]
@@ -98,7 +98,7 @@ pub fn put_both(rows: &mut [u64], at: usize, width: usize, mask: &[u64])
     requires room { at + width + width ≤ length rows.old }
     ensures len { length rows.new ≡ length rows.old }
     ensures kept { take (at + width) rows.new ≡ take (at + width) rows.old }
-    ensures put { row_at rows.new width (at + width) ≡ both_words (row_at rows.old width at) mask.now }
+    ensures put { row_in_words rows.new width (at + width) ≡ both_words (row_in_words rows.old width at) mask.now }
 {
     let to = at + width;
     meet_words(rows, at, to, mask);

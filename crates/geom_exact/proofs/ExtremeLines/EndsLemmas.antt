@@ -7,7 +7,7 @@ use Rattle.sight_names.specs.declared.limits.TheConstants.{RIGHT_END}
 use Rattle.sight_names.specs.declared.names.Pt.{Pt}
 use Rattle.sight_names.specs.declared.names.EndAt.{EndAt}
 use Rattle.sight_names.specs.declared.names.EndPair.{EndPair}
-use Rattle.sight_names.specs.Splitting.{EndPoints, IsPairOf, end_of}
+use Rattle.sight_names.specs.Splitting.{EndPoints, IsEndPairOf, end_of}
 use Rattle.math_base.proofs.Options.{some_is_same, none_is_not_some}
 
 pub get_append : {X : Type 0} (xs ys : List X) (k : ℕ) (x : X) → slice_get xs k ≡ Some x → slice_get (xs ++ ys) k ≡ Some x
@@ -39,7 +39,7 @@ end_longer es fs code false e h = mapped code (λ (e : EndPoints). e.right) (sli
 pub end_of_more : (es fs : List EndPoints) (code : ℕ) (e : EndAt) → end_of es code ≡ Some e → end_of (es ++ fs) code ≡ Some e
 end_of_more es fs code e h = end_longer es fs code (nat_lt code RIGHT_END) e h
 
-pub pair_of_more : (es fs : List EndPoints) (p : EndPair) → IsPairOf es p → IsPairOf (es ++ fs) p
+pub pair_of_more : (es fs : List EndPoints) (p : EndPair) → IsEndPairOf es p → IsEndPairOf (es ++ fs) p
 pair_of_more es fs p h = record { left_code = h.left_code; right_code = h.right_code; left = end_of_more es fs p.left.code p.left h.left; right = end_of_more es fs p.right.code p.right h.right }
 
 -- ---- ends by their places

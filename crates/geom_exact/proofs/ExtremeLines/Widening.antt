@@ -7,10 +7,10 @@ use Rattle.sight_names.specs.declared.names.EndAt.{EndAt}
 use Rattle.sight_names.specs.declared.names.EndPair.{EndPair}
 use Rattle.sight_names.specs.Splitting.{AreBalanced, across, up}
 use Rattle.sight_names.proofs.Records.{same_pt}
-use Rattle.plane_base.specs.Arrows.{Arrow, cross, dot, IsOnRay, IsBetween}
+use Rattle.plane_base.specs.Arrows.{Arrow, cross, dot, IsOnRay, IsArrowBetween}
 use Rattle.plane_base.proofs.Turns.{no_length, turned, long_of_cross, long_of_dot, ray_to_left, ray_to_right, ray_to_nearer, ray_before, wider_first, wider_second, nearer_first, nearer_second, at_first, at_second, at_ray, around_x, around_y, opposite_x, opposite_y}
 use Rattle.geom_exact.specs.ExtremeLines.Differences.{difference}
-use Rattle.geom_exact.specs.ExtremeLines.Spans.{arrow_of, pair_of, Spans, IsWidened, three_pairs}
+use Rattle.geom_exact.specs.ExtremeLines.Spans.{arrow_of, end_pair_of, Spans, IsWidened, three_pairs}
 use Rattle.geom_exact.specs.declared.extreme_lines.extreme.Extreme.{Extreme}
 use Rattle.geom_exact.specs.declared.extreme_lines.wedge.Wedge.{Wedge}
 use Rattle.geom_exact.specs.declared.extreme_lines.cone.Cone.{Cone}
@@ -32,7 +32,7 @@ long_of_ahead d g h = long_of_dot d g (λ e. omega (arith, ints, h, e))
 pub made_arrow : (e : Extreme) (l r : EndAt) → e.left ≡ l → e.right ≡ r → arrow_of e ≡ difference l.at r.at
 made_arrow e l r p q = ap₂ (λ (u v : EndAt). difference u.at v.at) p q
 
-made_pair : (e : Extreme) (l r : EndAt) → e.left ≡ l → e.right ≡ r → pair_of e ≡ record { left = l; right = r }
+made_pair : (e : Extreme) (l r : EndAt) → e.left ≡ l → e.right ≡ r → end_pair_of e ≡ record { left = l; right = r }
 made_pair e l r p q = ap₂ (λ (u v : EndAt). let w : EndPair = record { left = u; right = v } in w) p q
 
 -- ---- unchanged
@@ -44,23 +44,23 @@ pub ray_left_turn : (e : Extreme) (w : Wedge) (l r : EndAt) → w.first ≡ e �
 ray_left_turn e w l r s p q h = record {
   keeps = λ a b. moved a (ray_to_left (arrow_of e) (difference l.at r.at) a e.long h b);
   has = moved (difference l.at r.at) (at_second (arrow_of e) (difference l.at r.at) h);
-  first = inl (ap pair_of s);
+  first = inl (ap end_pair_of s);
   second = inr (made_pair w.second l r p q);
 }
   where
-    moved : (a : Arrow) → IsBetween (arrow_of e) (difference l.at r.at) a → IsBetween (arrow_of w.first) (arrow_of w.second) a
-    moved a b = subst₂ (λ (u v : Arrow). IsBetween u v a) (sym (ap arrow_of s)) (sym (made_arrow w.second l r p q)) b
+    moved : (a : Arrow) → IsArrowBetween (arrow_of e) (difference l.at r.at) a → IsArrowBetween (arrow_of w.first) (arrow_of w.second) a
+    moved a b = subst₂ (λ (u v : Arrow). IsArrowBetween u v a) (sym (ap arrow_of s)) (sym (made_arrow w.second l r p q)) b
 
 pub ray_right_turn : (e : Extreme) (w : Wedge) (l r : EndAt) → w.second ≡ e → w.first.left ≡ l → w.first.right ≡ r → cross (arrow_of e) (difference l.at r.at) <ℤ pos 0 → IsWidened (Ray e) l r (Open w)
 ray_right_turn e w l r s p q h = record {
   keeps = λ a b. moved a (ray_to_right (arrow_of e) (difference l.at r.at) a e.long h b);
   has = moved (difference l.at r.at) (at_first (difference l.at r.at) (arrow_of e) (ray_before (arrow_of e) (difference l.at r.at) h));
   first = inr (made_pair w.first l r p q);
-  second = inl (ap pair_of s);
+  second = inl (ap end_pair_of s);
 }
   where
-    moved : (a : Arrow) → IsBetween (difference l.at r.at) (arrow_of e) a → IsBetween (arrow_of w.first) (arrow_of w.second) a
-    moved a b = subst₂ (λ (u v : Arrow). IsBetween u v a) (sym (made_arrow w.first l r p q)) (sym (ap arrow_of s)) b
+    moved : (a : Arrow) → IsArrowBetween (difference l.at r.at) (arrow_of e) a → IsArrowBetween (arrow_of w.first) (arrow_of w.second) a
+    moved a b = subst₂ (λ (u v : Arrow). IsArrowBetween u v a) (sym (made_arrow w.first l r p q)) (sym (ap arrow_of s)) b
 
 pub ray_shorter : (e new : Extreme) (l r : EndAt) → new.left ≡ l → new.right ≡ r → cross (arrow_of e) (difference l.at r.at) ≡ pos 0 → pos 0 <ℤ dot (arrow_of e) (difference l.at r.at) → dot (arrow_of e) (difference l.at r.at) ≤ℤ dot (arrow_of e) (arrow_of e) → IsWidened (Ray e) l r (Ray new)
 ray_shorter e new l r p q z h n = record {
@@ -90,19 +90,19 @@ first_moves w new l r s p q h n k = record {
   keeps = λ a b. moved a (step a b);
   has = moved (difference l.at r.at) (at_first (difference l.at r.at) (arrow_of w.second) before);
   first = inr (made_pair new.first l r p q);
-  second = inl (ap pair_of s);
+  second = inl (ap end_pair_of s);
 }
   where
     before : pos 0 <ℤ cross (difference l.at r.at) (arrow_of w.second)
     before = second_before (difference l.at r.at) (arrow_of w.second) k
 
-    moved : (a : Arrow) → IsBetween (difference l.at r.at) (arrow_of w.second) a → IsBetween (arrow_of new.first) (arrow_of new.second) a
-    moved a b = subst₂ (λ (u v : Arrow). IsBetween u v a) (sym (made_arrow new.first l r p q)) (sym (ap arrow_of s)) b
+    moved : (a : Arrow) → IsArrowBetween (difference l.at r.at) (arrow_of w.second) a → IsArrowBetween (arrow_of new.first) (arrow_of new.second) a
+    moved a b = subst₂ (λ (u v : Arrow). IsArrowBetween u v a) (sym (made_arrow new.first l r p q)) (sym (ap arrow_of s)) b
 
-    step : (a : Arrow) → IsBetween (arrow_of w.first) (arrow_of w.second) a → IsBetween (difference l.at r.at) (arrow_of w.second) a
-    step a b = elim (sign_cases (cross (arrow_of w.first) (difference l.at r.at))) as (λ _. IsBetween (difference l.at r.at) (arrow_of w.second) a) [
+    step : (a : Arrow) → IsArrowBetween (arrow_of w.first) (arrow_of w.second) a → IsArrowBetween (difference l.at r.at) (arrow_of w.second) a
+    step a b = elim (sign_cases (cross (arrow_of w.first) (difference l.at r.at))) as (λ _. IsArrowBetween (difference l.at r.at) (arrow_of w.second) a) [
       | inl m ↦ wider_first (arrow_of w.first) (arrow_of w.second) (difference l.at r.at) a w.second.long w.spread m before b
-      | inr m ↦ elim m as (λ _. IsBetween (difference l.at r.at) (arrow_of w.second) a) [
+      | inr m ↦ elim m as (λ _. IsArrowBetween (difference l.at r.at) (arrow_of w.second) a) [
         | inl z ↦ nearer_first (arrow_of w.first) (arrow_of w.second) (difference l.at r.at) a w.first.long w.spread z before (n z) b
         | inr m ↦ absurd (omega (arith, ints, m, h))
       ]
@@ -114,17 +114,17 @@ pub second_moves : (w new : Wedge) (l r : EndAt) → new.first ≡ w.first → n
 second_moves w new l r s p q h n k = record {
   keeps = λ a b. moved a (step a b);
   has = moved (difference l.at r.at) (at_second (arrow_of w.first) (difference l.at r.at) k);
-  first = inl (ap pair_of s);
+  first = inl (ap end_pair_of s);
   second = inr (made_pair new.second l r p q);
 }
   where
-    moved : (a : Arrow) → IsBetween (arrow_of w.first) (difference l.at r.at) a → IsBetween (arrow_of new.first) (arrow_of new.second) a
-    moved a b = subst₂ (λ (u v : Arrow). IsBetween u v a) (sym (ap arrow_of s)) (sym (made_arrow new.second l r p q)) b
+    moved : (a : Arrow) → IsArrowBetween (arrow_of w.first) (difference l.at r.at) a → IsArrowBetween (arrow_of new.first) (arrow_of new.second) a
+    moved a b = subst₂ (λ (u v : Arrow). IsArrowBetween u v a) (sym (ap arrow_of s)) (sym (made_arrow new.second l r p q)) b
 
-    step : (a : Arrow) → IsBetween (arrow_of w.first) (arrow_of w.second) a → IsBetween (arrow_of w.first) (difference l.at r.at) a
-    step a b = elim (sign_cases (cross (arrow_of w.second) (difference l.at r.at))) as (λ _. IsBetween (arrow_of w.first) (difference l.at r.at) a) [
+    step : (a : Arrow) → IsArrowBetween (arrow_of w.first) (arrow_of w.second) a → IsArrowBetween (arrow_of w.first) (difference l.at r.at) a
+    step a b = elim (sign_cases (cross (arrow_of w.second) (difference l.at r.at))) as (λ _. IsArrowBetween (arrow_of w.first) (difference l.at r.at) a) [
       | inl m ↦ absurd (omega (arith, ints, m, h))
-      | inr m ↦ elim m as (λ _. IsBetween (arrow_of w.first) (difference l.at r.at) a) [
+      | inr m ↦ elim m as (λ _. IsArrowBetween (arrow_of w.first) (difference l.at r.at) a) [
         | inl z ↦ nearer_second (arrow_of w.first) (arrow_of w.second) (difference l.at r.at) a w.second.long w.spread k (second_level (difference l.at r.at) (arrow_of w.second) z) (n z) b
         | inr m ↦ wider_second (arrow_of w.first) (arrow_of w.second) (difference l.at r.at) a w.first.long w.spread k (second_after (difference l.at r.at) (arrow_of w.second) m) b
       ]
@@ -163,10 +163,10 @@ balanced p q r u v w hu hv hw ex ey = record {
         ∙ ap (λ (t : ℤ). u *ℤ a +ℤ (v *ℤ b +ℤ (t *ℤ c +ℤ pos 0))) (abs_of_nonneg w k)
 
 pub ray_meets : (e : Extreme) (l r : EndAt) → cross (arrow_of e) (difference l.at r.at) ≡ pos 0 → dot (arrow_of e) (difference l.at r.at) ≤ℤ pos 0 → AreBalanced (three_pairs (Ray e) l r)
-ray_meets e l r z h = balanced (pair_of e) (pair_of e) (record { left = l; right = r }) (neg_ℤ (dot (arrow_of e) (difference l.at r.at))) (pos 0) (dot (arrow_of e) (arrow_of e)) (omega (arith, ints)) (omega (arith, ints)) e.long (opposite_x (arrow_of e) (difference l.at r.at) z) (opposite_y (arrow_of e) (difference l.at r.at) z)
+ray_meets e l r z h = balanced (end_pair_of e) (end_pair_of e) (record { left = l; right = r }) (neg_ℤ (dot (arrow_of e) (difference l.at r.at))) (pos 0) (dot (arrow_of e) (arrow_of e)) (omega (arith, ints)) (omega (arith, ints)) e.long (opposite_x (arrow_of e) (difference l.at r.at) z) (opposite_y (arrow_of e) (difference l.at r.at) z)
 
 pub wedge_meets : (w : Wedge) (l r : EndAt) → cross (arrow_of w.first) (difference l.at r.at) ≤ℤ pos 0 → pos 0 ≤ℤ cross (arrow_of w.second) (difference l.at r.at) → AreBalanced (three_pairs (Open w) l r)
-wedge_meets w l r h k = balanced (pair_of w.first) (pair_of w.second) (record { left = l; right = r }) (neg_ℤ (cross (difference l.at r.at) (arrow_of w.second))) (neg_ℤ (cross (arrow_of w.first) (difference l.at r.at))) (cross (arrow_of w.first) (arrow_of w.second))
+wedge_meets w l r h k = balanced (end_pair_of w.first) (end_pair_of w.second) (record { left = l; right = r }) (neg_ℤ (cross (difference l.at r.at) (arrow_of w.second))) (neg_ℤ (cross (arrow_of w.first) (difference l.at r.at))) (cross (arrow_of w.first) (arrow_of w.second))
     (let t = turned (arrow_of w.second) (difference l.at r.at) in omega (arith, ints)) (omega (arith, ints)) w.spread (around_x (arrow_of w.first) (arrow_of w.second) (difference l.at r.at)) (around_y (arrow_of w.first) (arrow_of w.second) (difference l.at r.at))
 
 -- ---- a line that was made of these ends, beside another

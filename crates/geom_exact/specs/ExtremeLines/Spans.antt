@@ -3,7 +3,7 @@ use Rattle.std.specs.Prelude.{◌≡◌, ◌⊎◌, ◌≤◌, ◌^◌, List, []
 use Rattle.sight_names.specs.declared.names.Pt.{Pt}
 use Rattle.sight_names.specs.declared.names.EndAt.{EndAt}
 use Rattle.sight_names.specs.declared.names.EndPair.{EndPair}
-use Rattle.plane_base.specs.Arrows.{Arrow, cross, IsOnRay, IsBetween}
+use Rattle.plane_base.specs.Arrows.{Arrow, cross, IsOnRay, IsArrowBetween}
 use Rattle.sight_names.specs.Point.{point_of, value_at}
 use Rattle.geom_exact.specs.ExtremeLines.Differences.{difference}
 use Rattle.geom_exact.specs.declared.extreme_lines.extreme.Extreme.{Extreme}
@@ -19,13 +19,13 @@ arrow_of e = difference e.left.at e.right.at
 abbrev pub form_at : Extreme → Pt → ℤ
 form_at e p = cross (arrow_of e) (difference p e.right.at)
 
-abbrev pub pair_of : Extreme → EndPair
-pair_of e = record { left = e.left; right = e.right }
+abbrev pub end_pair_of : Extreme → EndPair
+end_pair_of e = record { left = e.left; right = e.right }
 
 -- the most clockwise line
-abbrev pub first_of : Cone → Extreme
-first_of (Ray e) = e
-first_of (Open w) = w.first
+abbrev pub first_extreme : Cone → Extreme
+first_extreme (Ray e) = e
+first_extreme (Open w) = w.first
 
 -- the most counterclockwise line
 abbrev pub second_of : Cone → Extreme
@@ -35,18 +35,18 @@ second_of (Open w) = w.second
 -- the arrow lies in the cone, and where it lies on an extreme line it isn't shorter than that line's own
 abbrev pub Spans : Cone → Arrow → Type 0
 Spans (Ray e) a = IsOnRay (arrow_of e) a
-Spans (Open w) a = IsBetween (arrow_of w.first) (arrow_of w.second) a
+Spans (Open w) a = IsArrowBetween (arrow_of w.first) (arrow_of w.second) a
 
 -- the second cone has all that the first one has, and the difference of these ends
 pub record IsWidened (old : Cone) (left right : EndAt) (new : Cone) : Type 0 where
   pub keeps : (a : Arrow) → Spans old a → Spans new a
   pub has : Spans new (difference left.at right.at)
-  pub first : (pair_of (first_of new) ≡ pair_of (first_of old)) ⊎ (pair_of (first_of new) ≡ record { left = left; right = right })
-  pub second : (pair_of (second_of new) ≡ pair_of (second_of old)) ⊎ (pair_of (second_of new) ≡ record { left = left; right = right })
+  pub first : (end_pair_of (first_extreme new) ≡ end_pair_of (first_extreme old)) ⊎ (end_pair_of (first_extreme new) ≡ record { left = left; right = right })
+  pub second : (end_pair_of (second_of new) ≡ end_pair_of (second_of old)) ⊎ (end_pair_of (second_of new) ≡ record { left = left; right = right })
 
 -- the pairs of the extreme lines, and a third one
 abbrev pub three_pairs : Cone → EndAt → EndAt → List EndPair
-three_pairs cone left right = pair_of (first_of cone) ∷ pair_of (second_of cone) ∷ record { left = left; right = right } ∷ []
+three_pairs cone left right = end_pair_of (first_extreme cone) ∷ end_pair_of (second_of cone) ∷ record { left = left; right = right } ∷ []
 
 -- what both lines of a wedge say of a point, on the left of both above 0
 abbrev pub middle_at : Wedge → Pt → ℤ
@@ -55,8 +55,8 @@ middle_at w p = cross (arrow_of w.first) (difference p w.first.right.at) -ℤ cr
 -- a line has a left end strictly on its left where the cone has the differences of that end and the extreme right
 -- ends, and so for a right end on its right; it has the range of rays
 pub record IsCutOf (cone : Cone) (a b c : ℤ) : Type 0 where
-  pub left : (p : Pt) → Spans cone (difference p (first_of cone).right.at) → Spans cone (difference p (second_of cone).right.at) → pos 0 <ℤ value_at a b c (point_of p)
-  pub right : (p : Pt) → Spans cone (difference (first_of cone).left.at p) → Spans cone (difference (second_of cone).left.at p) → value_at a b c (point_of p) <ℤ pos 0
+  pub left : (p : Pt) → Spans cone (difference p (first_extreme cone).right.at) → Spans cone (difference p (second_of cone).right.at) → pos 0 <ℤ value_at a b c (point_of p)
+  pub right : (p : Pt) → Spans cone (difference (first_extreme cone).left.at p) → Spans cone (difference (second_of cone).left.at p) → value_at a b c (point_of p) <ℤ pos 0
   pub a_in : nat_abs a ≤ 2 ^ 30
   pub b_in : nat_abs b ≤ 2 ^ 30
   pub c_in : nat_abs c ≤ 2 ^ 57

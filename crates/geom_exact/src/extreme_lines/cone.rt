@@ -4,7 +4,7 @@ ghost use Rattle.std.specs.Prelude.{◌≡◌, IsTrue, MatchOption};
 ghost use Rattle.sight_names.specs.declared.names.Pt.{Pt as Place};
 ghost use Rattle.sight_names.specs.Splitting.{AreBalanced};
 ghost use Rattle.geom_exact.specs.ExtremeLines.Differences.{difference};
-ghost use Rattle.geom_exact.specs.ExtremeLines.Spans.{Spans, first_of, second_of, IsWidened, IsCutOf, three_pairs};
+ghost use Rattle.geom_exact.specs.ExtremeLines.Spans.{Spans, first_extreme, second_of, IsWidened, IsCutOf, three_pairs};
 
 use crate::extreme_lines::cut::{Cut, middle_cut, ray_cut};
 use crate::extreme_lines::extreme::Extreme;
@@ -35,7 +35,7 @@ impl Cone {
     /// Whether all lines from right ends to this left one lie strictly between the extreme ones, where those to the
     /// extreme left ends lie within.
     pub fn has_outside_left(&self, left: Pt) -> bool
-        ensures { IsTrue result → (r : Place) → Spans self.now (difference (first_of self.now).left.at r) → Spans self.now (difference (second_of self.now).left.at r) → Spans self.now (difference left r) }
+        ensures { IsTrue result → (r : Place) → Spans self.now (difference (first_extreme self.now).left.at r) → Spans self.now (difference (second_of self.now).left.at r) → Spans self.now (difference left r) }
     {
         match self {
             Cone::Ray(_) => false,
@@ -46,7 +46,7 @@ impl Cone {
     /// Whether all lines from this right end to left ends lie strictly between the extreme ones, where those from the
     /// extreme right ends lie within.
     pub fn has_outside_right(&self, right: Pt) -> bool
-        ensures { IsTrue result → (l : Place) → Spans self.now (difference l (first_of self.now).right.at) → Spans self.now (difference l (second_of self.now).right.at) → Spans self.now (difference l right) }
+        ensures { IsTrue result → (l : Place) → Spans self.now (difference l (first_extreme self.now).right.at) → Spans self.now (difference l (second_of self.now).right.at) → Spans self.now (difference l right) }
     {
         match self {
             Cone::Ray(_) => false,
@@ -56,7 +56,7 @@ impl Cone {
 
     /// The most clockwise line.
     pub fn first(&self) -> &Extreme
-        ensures { result.now ≡ first_of self.now }
+        ensures { result.now ≡ first_extreme self.now }
     {
         match self {
             Cone::Ray(ray) => ray,
@@ -108,7 +108,7 @@ impl Cone {
 
     /// A line that has the left ends strictly on its left and the right ends strictly on its right.
     pub fn cut(&self) -> Cut
-        requires { Spans self.now (difference (second_of self.now).left.at (first_of self.now).right.at) }
+        requires { Spans self.now (difference (second_of self.now).left.at (first_extreme self.now).right.at) }
         ensures { IsCutOf self.now result.a result.b result.c }
     {
         match self {

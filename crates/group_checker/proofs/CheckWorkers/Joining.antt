@@ -14,8 +14,8 @@ use Rattle.mesh_shape.specs.declared.half_edges.table.HalfEdge.{HalfEdge}
 use Rattle.cert_checker.specs.declared.tree_judge.judge.Reach.{Reach}
 use Rattle.cert_checker.specs.declared.tree_judge.judge.TreeVerdict.{TreeVerdict}
 use Rattle.cert_checker.specs.declared.tree_judge.judge.TreeVerdict.TheVariants.{Whole, Wrong}
-use Rattle.cert_checker.specs.TreeJudge.Heard.{AreNoted}
-use Rattle.cert_checker.specs.TreeJudge.Marks.{IsMarked}
+use Rattle.cert_checker.specs.TreeJudge.Heard.{AreTreesNoted}
+use Rattle.cert_checker.specs.TreeJudge.Marks.{IsFlagSet}
 use Rattle.cert_checker.specs.TreeJudge.Part.{TellsPart}
 use Rattle.cert_checker.specs.TreeJudge.Whole.{IsFirstWrongTree, IsWholeOver, HasTreeAway, HasTreeInto}
 use Rattle.group_checker.specs.CheckWorkers.Joined.{TakesIn}
@@ -31,7 +31,7 @@ split_at (suc n) (suc i) l = let h = split_at n i (omega (arith, l)) in (h.0, le
 module _ (m : Map) (ts : List Triangle) (xs : List HalfEdge) where
   -- ---- two parts
 
-  pub noted_both : (front part : List Tree) (w pw w_new : List Bool) (r pr r_new : TableParts) → AreNoted m ts xs front w r → AreNoted m ts xs part pw pr → TakesIn (min r.n pr.n) pw pr w w_new r r_new → AreNoted m ts xs (front ++ part) w_new r_new
+  pub noted_both : (front part : List Tree) (w pw w_new : List Bool) (r pr r_new : TableParts) → AreTreesNoted m ts xs front w r → AreTreesNoted m ts xs part pw pr → TakesIn (min r.n pr.n) pw pr w w_new r r_new → AreTreesNoted m ts xs (front ++ part) w_new r_new
   noted_both front part w pw w_new r pr r_new f g t = record {
     unmarked = f.unmarked;
     clear = f.clear;
@@ -47,7 +47,7 @@ module _ (m : Map) (ts : List Triangle) (xs : List HalfEdge) where
       each u (inl h) = f.over.each u h
       each u (inr h) = g.over.each u h
 
-      marked : (u : Tree) → Contains front u ⊎ Contains part u → u.source < length f.unmarked → IsMarked w_new u.source
+      marked : (u : Tree) → Contains front u ⊎ Contains part u → u.source < length f.unmarked → IsFlagSet w_new u.source
       marked u (inl h) l = (t.flags u.source (omega (arith, l, f.marks, f.none.len))).1 (inl (f.over.marked u h l))
       marked u (inr h) l = (t.flags u.source (omega (arith, l, f.marks, f.none.len))).1 (inr (omega (arith, l, f.none.len, f.sectors, g.sectors), g.over.marked u h (omega (arith, l, f.none.len, g.none.len))))
 
@@ -72,25 +72,25 @@ module _ (m : Map) (ts : List Triangle) (xs : List HalfEdge) where
       entered : (a b : ℕ) → a < f.clear.n → b < f.clear.n → Rejects r_new a b → Rejects f.clear a b ⊎ HasTreeInto m ts xs (front ++ part) a b
       entered a b la lb set = by ((t.bits a b (within a la) (within b lb)).0 set)
         where
-          by : Rejects r a b ⊎ ((a < min r.n pr.n) × IsMarked pw a × (b < pr.n) × Rejects pr a b) → Rejects f.clear a b ⊎ HasTreeInto m ts xs (front ++ part) a b
+          by : Rejects r a b ⊎ ((a < min r.n pr.n) × IsFlagSet pw a × (b < pr.n) × Rejects pr a b) → Rejects f.clear a b ⊎ HasTreeInto m ts xs (front ++ part) a b
           by (inl h) = elim (f.over.entered a b la lb h) as (λ _. Rejects f.clear a b ⊎ HasTreeInto m ts xs (front ++ part) a b) [ inl s ↦ inl s | inr s ↦ inr (left_into a b s) ]
           by (inr h) = elim (g.over.entered a b (there a la) (there b lb) h.3) as (λ _. Rejects f.clear a b ⊎ HasTreeInto m ts xs (front ++ part) a b) [ inl s ↦ absurd (g.unset a b s) | inr s ↦ inr (right_into a b s) ]
 
-      away : (a b : ℕ) → a < f.clear.n → b < f.clear.n → IsMarked w_new a → ¬ Rejects r_new a b → IsMarked f.unmarked a ⊎ HasTreeAway m ts xs (front ++ part) a b
+      away : (a b : ℕ) → a < f.clear.n → b < f.clear.n → IsFlagSet w_new a → ¬ Rejects r_new a b → IsFlagSet f.unmarked a ⊎ HasTreeAway m ts xs (front ++ part) a b
       away a b la lb n clear = by ((t.flags a (omega (arith, la, f.size, f.marks))).0 n)
         where
-          bits : (Rejects r_new a b → Rejects r a b ⊎ ((a < min r.n pr.n) × IsMarked pw a × (b < pr.n) × Rejects pr a b)) × (Rejects r a b ⊎ ((a < min r.n pr.n) × IsMarked pw a × (b < pr.n) × Rejects pr a b) → Rejects r_new a b)
+          bits : (Rejects r_new a b → Rejects r a b ⊎ ((a < min r.n pr.n) × IsFlagSet pw a × (b < pr.n) × Rejects pr a b)) × (Rejects r a b ⊎ ((a < min r.n pr.n) × IsFlagSet pw a × (b < pr.n) × Rejects pr a b) → Rejects r_new a b)
           bits = t.bits a b (within a la) (within b lb)
 
-          by : IsMarked w a ⊎ ((a < min r.n pr.n) × IsMarked pw a) → IsMarked f.unmarked a ⊎ HasTreeAway m ts xs (front ++ part) a b
-          by (inl h) = elim (f.over.away a b la lb h (λ s. clear (bits.1 (inl s)))) as (λ _. IsMarked f.unmarked a ⊎ HasTreeAway m ts xs (front ++ part) a b) [ inl s ↦ inl s | inr s ↦ inr (left_apart a b s) ]
-          by (inr h) = elim (g.over.away a b (there a la) (there b lb) h.1 (λ s. clear (bits.1 (inr (h.0, h.1, omega (arith, lb, f.size, g.sectors), s))))) as (λ _. IsMarked f.unmarked a ⊎ HasTreeAway m ts xs (front ++ part) a b) [
+          by : IsFlagSet w a ⊎ ((a < min r.n pr.n) × IsFlagSet pw a) → IsFlagSet f.unmarked a ⊎ HasTreeAway m ts xs (front ++ part) a b
+          by (inl h) = elim (f.over.away a b la lb h (λ s. clear (bits.1 (inl s)))) as (λ _. IsFlagSet f.unmarked a ⊎ HasTreeAway m ts xs (front ++ part) a b) [ inl s ↦ inl s | inr s ↦ inr (left_apart a b s) ]
+          by (inr h) = elim (g.over.away a b (there a la) (there b lb) h.1 (λ s. clear (bits.1 (inr (h.0, h.1, omega (arith, lb, f.size, g.sectors), s))))) as (λ _. IsFlagSet f.unmarked a ⊎ HasTreeAway m ts xs (front ++ part) a b) [
             | inl s ↦ absurd (g.none.none a (omega (arith, la, f.size)) s)
             | inr s ↦ inr (right_apart a b s)
           ]
 
   -- the first wrong tree of a part behind whole ones
-  pub wrong_behind : (front part rest : List Tree) (w : List Bool) (r : TableParts) (s k : ℕ) → AreNoted m ts xs front w r → IsFirstWrongTree m ts xs part s k → IsFirstWrongTree m ts xs (front ++ (part ++ rest)) s k
+  pub wrong_behind : (front part rest : List Tree) (w : List Bool) (r : TableParts) (s k : ℕ) → AreTreesNoted m ts xs front w r → IsFirstWrongTree m ts xs part s k → IsFirstWrongTree m ts xs (front ++ (part ++ rest)) s k
   wrong_behind front part rest w r s k f v = record {
     place = length front + v.place;
     tree = v.tree;
@@ -114,9 +114,9 @@ module _ (m : Map) (ts : List Triangle) (xs : List HalfEdge) where
 
   -- some of the parts in front are taken in, and these are left
   abbrev pub AreJoined : List (List Tree) → List TreeVerdict → List Bool → TableParts → Type 0
-  AreJoined lists left w r = (front rest : List (List Tree)) × (lists ≡ front ++ rest) × AllZip (TellsPart m ts xs) rest left × AreNoted m ts xs (flat_map (λ l. l) front) w r
+  AreJoined lists left w r = (front rest : List (List Tree)) × (lists ≡ front ++ rest) × AllZip (TellsPart m ts xs) rest left × AreTreesNoted m ts xs (flat_map (λ l. l) front) w r
 
-  pub none_joined : (lists : List (List Tree)) (left : List TreeVerdict) (w : List Bool) (r : TableParts) → AllZip (TellsPart m ts xs) lists left → AreNoted m ts xs [] w r → AreJoined lists left w r
+  pub none_joined : (lists : List (List Tree)) (left : List TreeVerdict) (w : List Bool) (r : TableParts) → AllZip (TellsPart m ts xs) lists left → AreTreesNoted m ts xs [] w r → AreJoined lists left w r
   none_joined lists left w r told noted = ([], lists, refl, told, noted)
 
   pub one_joined : (lists : List (List Tree)) (part : Reach) (left : List TreeVerdict) (w w_new : List Bool) (r r_new : TableParts) → AreJoined lists (Whole part ∷ left) w r
@@ -127,13 +127,13 @@ module _ (m : Map) (ts : List Triangle) (xs : List HalfEdge) where
     rest,
     is ∙ sym (append_assoc front (l ∷ []) rest),
     told.1,
-    subst (λ (us : List Tree). AreNoted m ts xs us w_new r_new) (sym (flat_map-append (λ (k : List Tree). k) front (l ∷ []) ∙ ap (λ (us : List Tree). flat_map (λ k. k) front ++ us) (append-nil l)))
+    subst (λ (us : List Tree). AreTreesNoted m ts xs us w_new r_new) (sym (flat_map-append (λ (k : List Tree). k) front (l ∷ []) ∙ ap (λ (us : List Tree). flat_map (λ k. k) front ++ us) (append-nil l)))
         (noted_both (flat_map (λ k. k) front) l w part.walked.items w_new r part.reached r_new noted told.0 t),
   )
 
-  pub all_joined : (lists : List (List Tree)) (w : List Bool) (r : TableParts) → AreJoined lists [] w r → AreNoted m ts xs (flat_map (λ l. l) lists) w r
+  pub all_joined : (lists : List (List Tree)) (w : List Bool) (r : TableParts) → AreJoined lists [] w r → AreTreesNoted m ts xs (flat_map (λ l. l) lists) w r
   all_joined lists w r (front, l ∷ rest, is, told, noted) = absurd told
-  all_joined lists w r (front, [], is, told, noted) = subst (λ (ls : List (List Tree)). AreNoted m ts xs (flat_map (λ l. l) ls) w r) (sym (is ∙ append-nil front)) noted
+  all_joined lists w r (front, [], is, told, noted) = subst (λ (ls : List (List Tree)). AreTreesNoted m ts xs (flat_map (λ l. l) ls) w r) (sym (is ∙ append-nil front)) noted
 
   pub wrong_joined : (lists : List (List Tree)) (s k : ℕ) (left : List TreeVerdict) (w : List Bool) (r : TableParts) → AreJoined lists (Wrong s k ∷ left) w r → IsFirstWrongTree m ts xs (flat_map (λ l. l) lists) s k
   wrong_joined lists s k left w r (front, [], is, told, noted) = absurd told

@@ -7,7 +7,7 @@ use Rattle.block_evidence.specs.declared.sight_tree.Tree.{Tree}
 use Rattle.mesh_shape.specs.declared.half_edges.table.HalfEdge.{HalfEdge}
 use Rattle.reject_bits.specs.Parts.{TableParts, Rejects}
 use Rattle.cert_checker.specs.declared.tree_judge.judge.TreeVerdict.{TreeVerdict}
-use Rattle.cert_checker.specs.TreeJudge.Marks.{IsMarked}
+use Rattle.cert_checker.specs.TreeJudge.Marks.{IsFlagSet}
 use Rattle.cert_checker.specs.TreeJudge.Part.{TellsPart}
 
 -- each bit of the source and a sector below k that is set in the other table is set too, and no other
@@ -19,8 +19,8 @@ pub record SetsRow (source k : ℕ) (more old new : TableParts) : Type 0 where
 pub record TakesIn (k : ℕ) (part : List Bool) (bits_there : TableParts) (walked walked_new : List Bool) (reached reached_new : TableParts) : Type 0 where
   pub len : length walked_new ≡ length walked
   pub size : reached_new.n ≡ reached.n
-  pub flags : (a : ℕ) → a < length walked → IsMarked walked_new a ↔ (IsMarked walked a ⊎ ((a < k) × IsMarked part a))
-  pub bits : (a b : ℕ) → a < reached.n → b < reached.n → Rejects reached_new a b ↔ (Rejects reached a b ⊎ ((a < k) × IsMarked part a × (b < bits_there.n) × Rejects bits_there a b))
+  pub flags : (a : ℕ) → a < length walked → IsFlagSet walked_new a ↔ (IsFlagSet walked a ⊎ ((a < k) × IsFlagSet part a))
+  pub bits : (a b : ℕ) → a < reached.n → b < reached.n → Rejects reached_new a b ↔ (Rejects reached a b ⊎ ((a < k) × IsFlagSet part a × (b < bits_there.n) × Rejects bits_there a b))
 
 -- the trees one behind the other in parts, and what is told of each part
 abbrev pub TellParts : Map → List Triangle → List HalfEdge → List Tree → List TreeVerdict → Type 0
@@ -35,5 +35,5 @@ pub record CopiesBit (a b : ℕ) (more old new : TableParts) : Type 0 where
 pub record TakesSource (a : ℕ) (part : List Bool) (bits_there : TableParts) (walked walked_new : List Bool) (reached reached_new : TableParts) : Type 0 where
   pub len : length walked_new ≡ length walked
   pub size : reached_new.n ≡ reached.n
-  pub flags : (c : ℕ) → c < length walked → IsMarked walked_new c ↔ (IsMarked walked c ⊎ ((c ≡ a) × IsMarked part c))
-  pub bits : (c d : ℕ) → c < reached.n → d < reached.n → Rejects reached_new c d ↔ (Rejects reached c d ⊎ ((c ≡ a) × IsMarked part c × (d < bits_there.n) × Rejects bits_there c d))
+  pub flags : (c : ℕ) → c < length walked → IsFlagSet walked_new c ↔ (IsFlagSet walked c ⊎ ((c ≡ a) × IsFlagSet part c))
+  pub bits : (c d : ℕ) → c < reached.n → d < reached.n → Rejects reached_new c d ↔ (Rejects reached c d ⊎ ((c ≡ a) × IsFlagSet part c × (d < bits_there.n) × Rejects bits_there c d))

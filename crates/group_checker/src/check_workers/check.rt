@@ -4,7 +4,7 @@ ghost use denote.Param.Send.{IsSync};
 ghost use Rattle.std.specs.Prelude.{◌≡◌, ◌↔◌, length, IfOk};
 ghost use Rattle.sight_names.specs.Map.{map_of};
 ghost use Rattle.sight_names.specs.Sound.{LinesMeetAtEnds};
-ghost use Rattle.cert_format.specs.CertGroups.Grammar.{IsAnyInOrder, sizes_of};
+ghost use Rattle.cert_format.specs.CertGroups.Grammar.{IsAnyInOrder, sizes_of_listing};
 ghost use Rattle.cert_checker.specs.AcceptedGroups.Accepted.{IsAcceptedAny};
 ghost use Rattle.group_checker.specs.Judged.{IsYesAny, JudgesAny, TellsSightAny};
 
@@ -52,9 +52,9 @@ pub fn check_any_par<R: Threads + Sync>(
 ) -> Result<AnyVerdict, Memory>
     requires audited { LinesMeetAtEnds (map_of plan.now) }
     requires table { table.now.n ≡ plan.now.sectors }
-    requires sectors { (sizes_of cert.now).sectors ≡ plan.now.sectors }
-    requires points { (sizes_of cert.now).points ≡ length plan.now.points }
-    requires lines { (sizes_of cert.now).lines ≡ length plan.now.lines }
+    requires sectors { (sizes_of_listing cert.now).sectors ≡ plan.now.sectors }
+    requires points { (sizes_of_listing cert.now).points ≡ length plan.now.points }
+    requires lines { (sizes_of_listing cert.now).lines ≡ length plan.now.lines }
     requires in_order { IsAnyInOrder cert.now }
     ensures exact { IfOk result (JudgesAny plan.now table.now cert.now) }
     ensures accepted { IfOk result (λ v. IsYesAny v ↔ IsAcceptedAny (map_of plan.now) table.now.bytes cert.now) }

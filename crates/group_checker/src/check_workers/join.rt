@@ -6,7 +6,7 @@ ghost use Rattle.sight_names.specs.Map.{Map};
 ghost use Rattle.sight_names.specs.declared.names.Triangle.{Triangle};
 ghost use Rattle.block_evidence.specs.declared.sight_tree.Tree.{Tree as WalkTree};
 ghost use Rattle.mesh_shape.specs.declared.half_edges.table.HalfEdge.{HalfEdge as EdgeOf};
-ghost use Rattle.cert_checker.specs.TreeJudge.Heard.{AreNoted};
+ghost use Rattle.cert_checker.specs.TreeJudge.Heard.{AreTreesNoted};
 ghost use Rattle.cert_checker.specs.TreeJudge.Part.{TellsPart};
 ghost use Rattle.cert_checker.specs.TreeJudge.Whole.{IsFirstWrongTree};
 ghost use Rattle.group_checker.specs.CheckWorkers.Joined.{CopiesBit, SetsRow, TakesSource, TakesIn};
@@ -65,8 +65,8 @@ fn take_in(walked: &mut [bool], reached: &mut Table, part: &Reach)
 /// Takes in the parts in order, as far as their trees are whole: the source of the first tree that isn't, and its first
 /// wrong node.
 fn wrong_part(walked: &mut [bool], reached: &mut Table, parts: &[TreeVerdict]) -> Option<(u16, u64)>
-    ensures { (m : Map) (ts : List Triangle) (xs : List EdgeOf) (lists : List (List WalkTree)) → AllZip (TellsPart m ts xs) lists parts.now → AreNoted m ts xs [] walked.old reached.old
-        → MatchOption result (AreNoted m ts xs (flat_map (λ l. l) lists) walked.new reached.new) (λ w. IsFirstWrongTree m ts xs (flat_map (λ l. l) lists) w.0 w.1) }
+    ensures { (m : Map) (ts : List Triangle) (xs : List EdgeOf) (lists : List (List WalkTree)) → AllZip (TellsPart m ts xs) lists parts.now → AreTreesNoted m ts xs [] walked.old reached.old
+        → MatchOption result (AreTreesNoted m ts xs (flat_map (λ l. l) lists) walked.new reached.new) (λ w. IsFirstWrongTree m ts xs (flat_map (λ l. l) lists) w.0 w.1) }
 {
     for part in parts {
         match part {

@@ -16,10 +16,10 @@ use Rattle.listeners.specs.declared.finding.Finding.{Finding}
 use Rattle.listeners.specs.declared.finding.Kind.{Kind}
 use Rattle.listeners.specs.declared.finding.Kind.TheVariants as kind
 use Rattle.reject_bits.specs.Parts.{TableParts}
-use Rattle.listeners.specs.Findings.{all_pairs, pairs_from}
+use Rattle.listeners.specs.Findings.{all_pairs_of, pairs_in_row_from}
 use Rattle.listeners.specs.Listening.{clears_in, is_clear_kind, is_listed_kind, is_set_kind, lists_in, sets_in}
 use Rattle.listeners.specs.PairFindings.Counted.{FindingsAreCounted}
-use Rattle.listeners.specs.PairFindings.Found.{IsPairOf, finding_of, findings_of, is_listed, is_pair, kind_by, pair}
+use Rattle.listeners.specs.PairFindings.Found.{IsPairBelow, finding_of_pair, findings_of, is_pair_listed, is_pair, kind_by, pair}
 use Rattle.listeners.proofs.PairFindings.Places.{is_other, its_first, its_second}
 
 -- ---- counts
@@ -85,25 +85,25 @@ module _ (q : Pair) where
       sum_at (λ b. cond (is_pair q.a b q) 1 0) q.b (λ b other. ap (λ (x : Bool). cond x 1 0) (is_other q.a b q (λ e f. other (sym f)))) q.a (n - q.a) (omega arith) (omega arith)
       ∙ ap (λ (x : Bool). cond x 1 0) (both_true (q.a == q.a) (q.b == q.b) (tells_same q.a q.a refl) (tells_same q.b q.b refl))
 
-  count_one : (n : ℕ) → q.a < q.b → q.b < n → count_by (λ (p : Pair). is_pair p.a p.b q) (all_pairs n) ≡ 1
+  count_one : (n : ℕ) → q.a < q.b → q.b < n → count_by (λ (p : Pair). is_pair p.a p.b q) (all_pairs_of n) ≡ 1
   count_one n order within =
-      count_flat (λ (p : Pair). is_pair p.a p.b q) (pairs_from n) (range_with_len 0 n)
+      count_flat (λ (p : Pair). is_pair p.a p.b q) (pairs_in_row_from n) (range_with_len 0 n)
       ∙ sum_rows (range_with_len 0 n)
       ∙ sum_at (row_count n) q.a (other_row n) 0 n (omega arith) (omega arith)
       ∙ its_row n order within
     where
-      row : (a : ℕ) → count_by (λ (p : Pair). is_pair p.a p.b q) (pairs_from n a) ≡ row_count n a
+      row : (a : ℕ) → count_by (λ (p : Pair). is_pair p.a p.b q) (pairs_in_row_from n a) ≡ row_count n a
       row a = count_same (λ (p : Pair). is_pair p.a p.b q) (λ b. is_pair a b q) (pair a) (λ b. refl) (range_with_len a (n - a))
 
-      sum_rows : (xs : List ℕ) → sum_by (λ a. count_by (λ (p : Pair). is_pair p.a p.b q) (pairs_from n a)) xs ≡ sum_by (row_count n) xs
+      sum_rows : (xs : List ℕ) → sum_by (λ a. count_by (λ (p : Pair). is_pair p.a p.b q) (pairs_in_row_from n a)) xs ≡ sum_by (row_count n) xs
       sum_rows [] = refl
-      sum_rows (x ∷ xs) = omega (arith, sum_by-cons (λ a. count_by (λ (p : Pair). is_pair p.a p.b q) (pairs_from n a)) x xs, sum_by-cons (row_count n) x xs, row x, sum_rows xs)
+      sum_rows (x ∷ xs) = omega (arith, sum_by-cons (λ a. count_by (λ (p : Pair). is_pair p.a p.b q) (pairs_in_row_from n a)) x xs, sum_by-cons (row_count n) x xs, row x, sum_rows xs)
 
 -- ---- the listed ones among all
 
-pub listed_there : (a b : ℕ) (ps : List Pair) → is_listed ps a b ≡ true → (p : Pair) × Contains ps p × (p.a ≡ a) × (p.b ≡ b)
+pub listed_there : (a b : ℕ) (ps : List Pair) → is_pair_listed ps a b ≡ true → (p : Pair) × Contains ps p × (p.a ≡ a) × (p.b ≡ b)
 listed_there a b [] e = absurd cc
-listed_there a b (p ∷ ps) e = elim (one_true (is_pair a b p) (is_listed ps a b) e) [
+listed_there a b (p ∷ ps) e = elim (one_true (is_pair a b p) (is_pair_listed ps a b) e) [
   | inl here ↦ (p, contains_here p ps, its_first a b p here, its_second a b p here)
   | inr there ↦ (let h = listed_there a b ps there in (h.0, contains_there h.0 p ps h.1, h.2, h.3))
 ]
@@ -120,46 +120,46 @@ not_again p q r h = numbers q.a q.b r.a r.b p.a p.b h
     numbers : (a b c d e f : ℕ) → (a < c) ⊎ ((a ≡ c) × (b < d)) → a ≡ e → b ≡ f → c ≡ e → d ≡ f → ⊥
     numbers a b c d e f h s t u v = omega arith
 
-count_listed : (n : ℕ) (listed : List Pair) → Ascends PairBefore listed → AllByRecursion (IsPairOf n) listed → count_by (λ (p : Pair). is_listed listed p.a p.b) (all_pairs n) ≡ length listed
-count_listed n [] up pairs = count_none (λ (p : Pair). is_listed [] p.a p.b) (λ p. refl) (all_pairs n)
+count_listed : (n : ℕ) (listed : List Pair) → Ascends PairBefore listed → AllByRecursion (IsPairBelow n) listed → count_by (λ (p : Pair). is_pair_listed listed p.a p.b) (all_pairs_of n) ≡ length listed
+count_listed n [] up pairs = count_none (λ (p : Pair). is_pair_listed [] p.a p.b) (λ p. refl) (all_pairs_of n)
 count_listed n (q ∷ qs) up pairs =
-    let both = count_either (λ (p : Pair). is_listed (q ∷ qs) p.a p.b) (λ (p : Pair). is_pair p.a p.b q) (λ (p : Pair). is_listed qs p.a p.b) (λ p. either_counts (is_pair p.a p.b q) (is_listed qs p.a p.b) (once p)) (all_pairs n) in
+    let both = count_either (λ (p : Pair). is_pair_listed (q ∷ qs) p.a p.b) (λ (p : Pair). is_pair p.a p.b q) (λ (p : Pair). is_pair_listed qs p.a p.b) (λ p. either_counts (is_pair p.a p.b q) (is_pair_listed qs p.a p.b) (once p)) (all_pairs_of n) in
     let one = count_one q n pairs.0.0 pairs.0.1 in
     let others = count_listed n qs (ascends_tail PairBefore q qs up) pairs.1 in
     omega (arith, both, one, others)
   where
-    once : (p : Pair) → is_pair p.a p.b q ≡ true → is_listed qs p.a p.b ≡ true → ⊥
+    once : (p : Pair) → is_pair p.a p.b q ≡ true → is_pair_listed qs p.a p.b ≡ true → ⊥
     once p here there =
         let h = listed_there p.a p.b qs there in
         not_again p q h.0 (ascends_head PairBefore q h.0 qs up h.1) (its_first p.a p.b q here) (its_second p.a p.b q here) h.2 h.3
 
 -- ---- how many pairs there are
 
-triangle : (n a k : ℕ) → a + k ≡ n → 2 * length (flat_map (pairs_from n) (range_with_len a k)) ≡ k * (k + 1)
+triangle : (n a k : ℕ) → a + k ≡ n → 2 * length (flat_map (pairs_in_row_from n) (range_with_len a k)) ≡ k * (k + 1)
 triangle n a zero e = refl
 triangle n a (suc k) e =
-    let row : length (pairs_from n a) ≡ suc k = length-map-range_with_len (pair a) a (n - a) ∙ (omega (arith, e)) in
+    let row : length (pairs_in_row_from n a) ≡ suc k = length-map-range_with_len (pair a) a (n - a) ∙ (omega (arith, e)) in
     let rest = triangle n (a + 1) k (omega (arith, e)) in
-    let both = length-append (pairs_from n a) (flat_map (pairs_from n) (range_with_len (a + 1) k)) in
+    let both = length-append (pairs_in_row_from n a) (flat_map (pairs_in_row_from n) (range_with_len (a + 1) k)) in
     let square : suc k * (suc k + 1) ≡ k * (k + 1) + 2 * suc k = omega arith in
     omega (arith, both, row, rest, square)
 
-count_pairs : (n : ℕ) → length (all_pairs n) ≡ n * (n + 1) / 2
-count_pairs n = half (length (all_pairs n)) (n * (n + 1)) (triangle n 0 n (omega arith))
+count_pairs : (n : ℕ) → length (all_pairs_of n) ≡ n * (n + 1) / 2
+count_pairs n = half (length (all_pairs_of n)) (n * (n + 1)) (triangle n 0 n (omega arith))
   where
     half : (x y : ℕ) → 2 * x ≡ y → x ≡ y / 2
     half x y e = omega (arith, e)
 
 -- a row at a time
-pub sets_by_rows : (t : TableParts) → count_by (λ (p : Pair). table_bit t.bytes (p.a * t.n + p.b) == 1) (all_pairs t.n) ≡ sum_by (λ a. count_by (λ b. table_bit t.bytes (a * t.n + b) == 1) (range_with_len a (t.n - a))) (range_with_len 0 t.n)
-sets_by_rows t = count_flat (λ (p : Pair). table_bit t.bytes (p.a * t.n + p.b) == 1) (pairs_from t.n) (range_with_len 0 t.n) ∙ rows (range_with_len 0 t.n)
+pub sets_by_rows : (t : TableParts) → count_by (λ (p : Pair). table_bit t.bytes (p.a * t.n + p.b) == 1) (all_pairs_of t.n) ≡ sum_by (λ a. count_by (λ b. table_bit t.bytes (a * t.n + b) == 1) (range_with_len a (t.n - a))) (range_with_len 0 t.n)
+sets_by_rows t = count_flat (λ (p : Pair). table_bit t.bytes (p.a * t.n + p.b) == 1) (pairs_in_row_from t.n) (range_with_len 0 t.n) ∙ rows (range_with_len 0 t.n)
   where
-    row : (a : ℕ) → count_by (λ (p : Pair). table_bit t.bytes (p.a * t.n + p.b) == 1) (pairs_from t.n a) ≡ count_by (λ b. table_bit t.bytes (a * t.n + b) == 1) (range_with_len a (t.n - a))
+    row : (a : ℕ) → count_by (λ (p : Pair). table_bit t.bytes (p.a * t.n + p.b) == 1) (pairs_in_row_from t.n a) ≡ count_by (λ b. table_bit t.bytes (a * t.n + b) == 1) (range_with_len a (t.n - a))
     row a = count_same (λ (p : Pair). table_bit t.bytes (p.a * t.n + p.b) == 1) (λ b. table_bit t.bytes (a * t.n + b) == 1) (pair a) (λ b. refl) (range_with_len a (t.n - a))
 
-    rows : (xs : List ℕ) → sum_by (λ a. count_by (λ (p : Pair). table_bit t.bytes (p.a * t.n + p.b) == 1) (pairs_from t.n a)) xs ≡ sum_by (λ a. count_by (λ b. table_bit t.bytes (a * t.n + b) == 1) (range_with_len a (t.n - a))) xs
+    rows : (xs : List ℕ) → sum_by (λ a. count_by (λ (p : Pair). table_bit t.bytes (p.a * t.n + p.b) == 1) (pairs_in_row_from t.n a)) xs ≡ sum_by (λ a. count_by (λ b. table_bit t.bytes (a * t.n + b) == 1) (range_with_len a (t.n - a))) xs
     rows [] = refl
-    rows (x ∷ xs) = omega (arith, sum_by-cons (λ a. count_by (λ (p : Pair). table_bit t.bytes (p.a * t.n + p.b) == 1) (pairs_from t.n a)) x xs, sum_by-cons (λ a. count_by (λ b. table_bit t.bytes (a * t.n + b) == 1) (range_with_len a (t.n - a))) x xs, row x, rows xs)
+    rows (x ∷ xs) = omega (arith, sum_by-cons (λ a. count_by (λ (p : Pair). table_bit t.bytes (p.a * t.n + p.b) == 1) (pairs_in_row_from t.n a)) x xs, sum_by-cons (λ a. count_by (λ b. table_bit t.bytes (a * t.n + b) == 1) (range_with_len a (t.n - a))) x xs, row x, rows xs)
 
 -- ---- the findings
 
@@ -186,12 +186,12 @@ all_kinds (f ∷ fs) =
 
 pub findings_are_counted : FindingsAreCounted
 findings_are_counted t listed up pairs clear = record {
-  sets = count_same (λ (f : Finding). is_set_kind f.kind) (λ (p : Pair). table_bit t.bytes (p.a * t.n + p.b) == 1) (finding_of t listed) (λ p. set_by (is_listed listed p.a p.b) (table_bit t.bytes (p.a * t.n + p.b) == 1) (not_set p)) (all_pairs t.n);
-  lists = count_same (λ (f : Finding). is_listed_kind f.kind) (λ (p : Pair). is_listed listed p.a p.b) (finding_of t listed) (λ p. listed_by (is_listed listed p.a p.b) (table_bit t.bytes (p.a * t.n + p.b) == 1)) (all_pairs t.n) ∙ count_listed t.n listed up pairs;
-  all = all_kinds (findings_of t listed) ∙ length-map (all_pairs t.n) (finding_of t listed) ∙ count_pairs t.n;
+  sets = count_same (λ (f : Finding). is_set_kind f.kind) (λ (p : Pair). table_bit t.bytes (p.a * t.n + p.b) == 1) (finding_of_pair t listed) (λ p. set_by (is_pair_listed listed p.a p.b) (table_bit t.bytes (p.a * t.n + p.b) == 1) (not_set p)) (all_pairs_of t.n);
+  lists = count_same (λ (f : Finding). is_listed_kind f.kind) (λ (p : Pair). is_pair_listed listed p.a p.b) (finding_of_pair t listed) (λ p. listed_by (is_pair_listed listed p.a p.b) (table_bit t.bytes (p.a * t.n + p.b) == 1)) (all_pairs_of t.n) ∙ count_listed t.n listed up pairs;
+  all = all_kinds (findings_of t listed) ∙ length-map (all_pairs_of t.n) (finding_of_pair t listed) ∙ count_pairs t.n;
 }
   where
-    not_set : (p : Pair) → is_listed listed p.a p.b ≡ true → (table_bit t.bytes (p.a * t.n + p.b) == 1) ≡ false
+    not_set : (p : Pair) → is_pair_listed listed p.a p.b ≡ true → (table_bit t.bytes (p.a * t.n + p.b) == 1) ≡ false
     not_set p there =
         let h = listed_there p.a p.b listed there in
         tells_other (table_bit t.bytes (p.a * t.n + p.b)) 1 (λ e. clear h.0 h.1 (ap (λ (k : ℕ). table_bit t.bytes (k * t.n + h.0.b)) h.2 ∙ ap (λ (k : ℕ). table_bit t.bytes (p.a * t.n + k)) h.3 ∙ e))

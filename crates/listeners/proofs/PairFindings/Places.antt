@@ -7,7 +7,7 @@ use Rattle.math_base.proofs.Numbers.{below_or_last, below_same_or_above, is_told
 use Rattle.sight_names.specs.declared.names.Pair.{Pair}
 use Rattle.sight_names.specs.Order.{Ascends, PairBefore}
 use Rattle.sight_names.proofs.Lists.{ascends_head, ascends_tail}
-use Rattle.listeners.specs.PairFindings.Found.{IsPairOf, is_listed, is_pair, pair}
+use Rattle.listeners.specs.PairFindings.Found.{IsPairBelow, is_pair_listed, is_pair, pair}
 use Rattle.listeners.specs.PairFindings.Place.{IsLeftAt}
 
 -- ---- the order of two pairs
@@ -70,9 +70,9 @@ is_other a b p n = false_where_not_true (is_pair a b p) (λ e. n (its_first a b 
 other_is : (a b : ℕ) (p : Pair) → is_pair a b p ≡ false → p.a ≡ a → p.b ≡ b → ⊥
 other_is a b p n e f = not_both_values (is_pair a b p) (both_true (p.a == a) (p.b == b) (tells_same p.a a e) (tells_same p.b b f)) n
 
-none_listed : (a b : ℕ) (ps : List Pair) → AllByRecursion (λ (p : Pair). PairBefore (pair a b) p) ps → is_listed ps a b ≡ false
+none_listed : (a b : ℕ) (ps : List Pair) → AllByRecursion (λ (p : Pair). PairBefore (pair a b) p) ps → is_pair_listed ps a b ≡ false
 none_listed a b [] h = refl
-none_listed a b (p ∷ ps) h = ap (λ (x : Bool). x || is_listed ps a b) (is_other a b p (behind_itself a b p.a p.b h.0)) ∙ none_listed a b ps h.1
+none_listed a b (p ∷ ps) h = ap (λ (x : Bool). x || is_pair_listed ps a b) (is_other a b p (behind_itself a b p.a p.b h.0)) ∙ none_listed a b ps h.1
 
 -- ---- a pair on
 
@@ -80,11 +80,11 @@ all_behind : (a b : ℕ) (p : Pair) (ps : List Pair) → Ascends PairBefore (p �
 all_behind a b p ps up h = (h, all_of (λ (q : Pair). PairBefore (pair a b) q) ps (λ q c. before_through a b p.a p.b q.a q.b h (ascends_head PairBefore p q ps up c)))
 
 module _ (listed left : List Pair) (a b : ℕ) (h : IsLeftAt listed left a b) where
-  told_here : is_listed left a b ≡ is_listed listed a b
+  told_here : is_pair_listed left a b ≡ is_pair_listed listed a b
   told_here = h.same a b (not_before_itself a b)
 
   -- all that are left are behind the pair
-  kept : AllByRecursion (λ (p : Pair). PairBefore (pair a b) p) left → (false ≡ is_listed listed a b) × IsLeftAt listed left a (b + 1)
+  kept : AllByRecursion (λ (p : Pair). PairBefore (pair a b) p) left → (false ≡ is_pair_listed listed a b) × IsLeftAt listed left a (b + 1)
   kept behind = (
     sym (none_listed a b left behind) ∙ told_here,
     record {
@@ -95,19 +95,19 @@ module _ (listed left : List Pair) (a b : ℕ) (h : IsLeftAt listed left a b) wh
   )
 
   -- the first of them is another pair
-  pub pass_other : (p : Pair) (ps : List Pair) → left ≡ p ∷ ps → is_pair a b p ≡ false → (false ≡ is_listed listed a b) × IsLeftAt listed left a (b + 1)
+  pub pass_other : (p : Pair) (ps : List Pair) → left ≡ p ∷ ps → is_pair a b p ≡ false → (false ≡ is_pair_listed listed a b) × IsLeftAt listed left a (b + 1)
   pass_other p ps e other =
       let up = subst (λ (l : List Pair). Ascends PairBefore l) e h.ascend in
       let behind = subst (λ (l : List Pair). AllByRecursion (λ (q : Pair). ¬ PairBefore q (pair a b)) l) e h.behind in
       kept (subst (λ (l : List Pair). AllByRecursion (λ (q : Pair). PairBefore (pair a b) q) l) (sym e) (all_behind a b p ps up (behind_other a b p.a p.b behind.0 (other_is a b p other))))
 
   -- the first of them is the pair
-  pub pass_it : (p : Pair) (ps : List Pair) → left ≡ p ∷ ps → is_pair a b p ≡ true → (true ≡ is_listed listed a b) × IsLeftAt listed ps a (b + 1)
+  pub pass_it : (p : Pair) (ps : List Pair) → left ≡ p ∷ ps → is_pair a b p ≡ true → (true ≡ is_pair_listed listed a b) × IsLeftAt listed ps a (b + 1)
   pass_it p ps e it =
       let up = subst (λ (l : List Pair). Ascends PairBefore l) e h.ascend in (
-        sym (true_by_first (is_pair a b p) (is_listed ps a b) it) ∙ ap (λ (l : List Pair). is_listed l a b) (sym e) ∙ told_here,
+        sym (true_by_first (is_pair a b p) (is_pair_listed ps a b) it) ∙ ap (λ (l : List Pair). is_pair_listed l a b) (sym e) ∙ told_here,
         record {
-          same = λ c d n. sym (ap (λ (x : Bool). x || is_listed ps c d) (is_other c d p (passed c d n))) ∙ ap (λ (l : List Pair). is_listed l c d) (sym e) ∙ h.same c d (λ f. n (before_next a b c d f));
+          same = λ c d n. sym (ap (λ (x : Bool). x || is_pair_listed ps c d) (is_other c d p (passed c d n))) ∙ ap (λ (l : List Pair). is_pair_listed l c d) (sym e) ∙ h.same c d (λ f. n (before_next a b c d f));
           behind = all_of (λ (q : Pair). ¬ PairBefore q (pair a (b + 1))) ps (λ q c f. later q (ascends_head PairBefore p q ps up c) f);
           ascend = ascends_tail PairBefore p ps up;
         },
@@ -136,11 +136,11 @@ all_left P zero ps h = h
 all_left P (suc n) [] h = tt
 all_left P (suc n) (p ∷ ps) h = all_left P n ps h.1
 
-pub row_passed : (n : ℕ) (listed : List Pair) (place a : ℕ) → AllByRecursion (IsPairOf n) listed → IsLeftAt listed (drop place listed) a n → IsLeftAt listed (drop place listed) (a + 1) (a + 1)
+pub row_passed : (n : ℕ) (listed : List Pair) (place a : ℕ) → AllByRecursion (IsPairBelow n) listed → IsLeftAt listed (drop place listed) a n → IsLeftAt listed (drop place listed) (a + 1) (a + 1)
 row_passed n listed place a pairs h = record {
   same = λ c d k. h.same c d (λ f. k (before_row a n c d f));
-  behind = all_both (λ (p : Pair). ¬ PairBefore p (pair a n)) (IsPairOf n) (λ (p : Pair). ¬ PairBefore p (pair (a + 1) (a + 1))) (drop place listed) (λ p before is f. behind_row a n p.a p.b before is.0 is.1 f) h.behind
-      (all_left (IsPairOf n) place listed pairs);
+  behind = all_both (λ (p : Pair). ¬ PairBefore p (pair a n)) (IsPairBelow n) (λ (p : Pair). ¬ PairBefore p (pair (a + 1) (a + 1))) (drop place listed) (λ p before is f. behind_row a n p.a p.b before is.0 is.1 f) h.behind
+      (all_left (IsPairBelow n) place listed pairs);
   ascend = h.ascend;
 }
 

@@ -7,11 +7,11 @@ use Rattle.reject_bits.specs.Parts.{Rejects, TableParts}
 use Rattle.listeners.specs.declared.finding.Finding.{Finding}
 use Rattle.listeners.specs.declared.finding.Kind.{Kind}
 use Rattle.listeners.specs.declared.finding.Kind.TheVariants as kind
-use Rattle.listeners.specs.Findings.{all_pairs, pair_of}
+use Rattle.listeners.specs.Findings.{all_pairs_of, pair_of_finding}
 
 -- two different sectors below n, the smaller one first
-abbrev pub IsPairOf : ℕ → Pair → Type 0
-IsPairOf n p = (p.a < p.b) × (p.b < n)
+abbrev pub IsPairBelow : ℕ → Pair → Type 0
+IsPairBelow n p = (p.a < p.b) × (p.b < n)
 
 abbrev pub pair : ℕ → ℕ → Pair
 pair a b = record { a = a; b = b }
@@ -20,8 +20,8 @@ abbrev pub is_pair : ℕ → ℕ → Pair → Bool
 is_pair a b p = p.a == a && p.b == b
 
 -- the list has the pair
-abbrev pub is_listed : List Pair → ℕ → ℕ → Bool
-is_listed listed a b = list_any (is_pair a b) listed
+abbrev pub is_pair_listed : List Pair → ℕ → ℕ → Bool
+is_pair_listed listed a b = list_any (is_pair a b) listed
 
 -- the kind of a pair by whether it is listed and whether its bit is set
 abbrev pub kind_by : Bool → Bool → Kind
@@ -30,19 +30,19 @@ kind_by false true = kind.Set
 kind_by false false = kind.Clear
 
 -- listed where the list has the pair, or else set or clear by its bit
-abbrev pub kind_of : TableParts → List Pair → ℕ → ℕ → Kind
-kind_of t listed a b = kind_by (is_listed listed a b) (table_bit t.bytes (a * t.n + b) == 1)
+abbrev pub kind_of_pair : TableParts → List Pair → ℕ → ℕ → Kind
+kind_of_pair t listed a b = kind_by (is_pair_listed listed a b) (table_bit t.bytes (a * t.n + b) == 1)
 
-abbrev pub finding_of : TableParts → List Pair → Pair → Finding
-finding_of t listed p = record { a = p.a; b = p.b; kind = kind_of t listed p.a p.b }
+abbrev pub finding_of_pair : TableParts → List Pair → Pair → Finding
+finding_of_pair t listed p = record { a = p.a; b = p.b; kind = kind_of_pair t listed p.a p.b }
 
 -- one finding for each pair, in order
 abbrev pub findings_of : TableParts → List Pair → List Finding
-findings_of t listed = map (finding_of t listed) (all_pairs t.n)
+findings_of t listed = map (finding_of_pair t listed) (all_pairs_of t.n)
 
 -- those of the pairs (a, c) for one a, from c = b on
 abbrev pub row_from : TableParts → List Pair → ℕ → ℕ → List Finding
-row_from t listed a b = map (finding_of t listed) (map (pair a) (range_with_len b (t.n - b)))
+row_from t listed a b = map (finding_of_pair t listed) (map (pair a) (range_with_len b (t.n - b)))
 
 -- ---- what they tell
 
@@ -58,7 +58,7 @@ pub record IsFindingBy (t : TableParts) (listed : List Pair) (f : Finding) : Typ
   pub kind : IsKindBy t listed f.a f.b f.kind
 
 pub record TellPairs (t : TableParts) (listed : List Pair) (fs : List Finding) : Type 0 where
-  pub pairs : map pair_of fs ≡ all_pairs t.n
+  pub pairs : map pair_of_finding fs ≡ all_pairs_of t.n
   pub each : All (IsFindingBy t listed) fs
 
 -- the findings of a table and a list are one for each pair, and tell what the two say of it

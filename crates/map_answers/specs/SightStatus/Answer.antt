@@ -34,11 +34,11 @@ status_of (Ok answer) = done_as answer.right
 status_of (Err refusal) = refusal
 
 -- What was made is what is said, unless memory ran out or a read failed.
-abbrev pub Makes : {V D : Type 0} → (V → D) → Result V Status → Result D Status → Type 0
-Makes view (Ok v) said = said ≡ Ok (view v)
-Makes view (Err (status.Memory _)) said = ⊤
-Makes view (Err (status.ReadFault role)) said = ⊤
-Makes view (Err refusal) said = said ≡ Err refusal
+abbrev pub MakesAnswer : {V D : Type 0} → (V → D) → Result V Status → Result D Status → Type 0
+MakesAnswer view (Ok v) said = said ≡ Ok (view v)
+MakesAnswer view (Err (status.Memory _)) said = ⊤
+MakesAnswer view (Err (status.ReadFault role)) said = ⊤
+MakesAnswer view (Err refusal) said = said ≡ Err refusal
 
 -- This is an answer that is called for. Where only one is, it is this one.
 pub record IsTheAnswer (Sole : Type 0) (Called : Result Answer Status → Type 0) (given : Result Answer Status) : Type 0 where
@@ -46,10 +46,10 @@ pub record IsTheAnswer (Sole : Type 0) (Called : Result Answer Status → Type 0
   pub only : Sole → (other : Result Answer Status) → Called other → other ≡ given
 
 -- What was given is the answer called for, unless memory ran out or a read failed.
-abbrev pub Gives : Type 0 → (Result Answer Status → Type 0) → Result Answer Status → Type 0
-Gives Sole Called (Err (status.Memory _)) = ⊤
-Gives Sole Called (Err (status.ReadFault role)) = ⊤
-Gives Sole Called given = IsTheAnswer Sole Called given
+abbrev pub GivesCalled : Type 0 → (Result Answer Status → Type 0) → Result Answer Status → Type 0
+GivesCalled Sole Called (Err (status.Memory _)) = ⊤
+GivesCalled Sole Called (Err (status.ReadFault role)) = ⊤
+GivesCalled Sole Called given = IsTheAnswer Sole Called given
 
 -- a line, or the refusal, as an answer
 abbrev pub line_answer : Result (String Global) Status → Result Answer Status

@@ -25,14 +25,14 @@ pub record WasDropped (result : Status) (old new : SinkState) : Type 0 where
   pub status : result ≡ status.Memory tt
   pub same : new ≡ old
 
-abbrev pub Said : Status → Status → SinkState → SinkState → List ℕ → Type 0
-Said told result old new line = WasPut told result old new line ⊎ WasCut result old new line
+abbrev pub IsSaidLine : Status → Status → SinkState → SinkState → List ℕ → Type 0
+IsSaidLine told result old new line = WasPut told result old new line ⊎ WasCut result old new line
 
 abbrev pub SaidIfMade : Status → Status → SinkState → SinkState → Type 0
-SaidIfMade told result old new = Said told result old new (text_of told) ⊎ WasDropped result old new
+SaidIfMade told result old new = IsSaidLine told result old new (text_of told) ⊎ WasDropped result old new
 
 -- want of memory puts nothing, and the line of a write fault wants no memory
 abbrev pub Refused : Status → Status → SinkState → SinkState → Type 0
 Refused (status.Memory _) result old new = WasDropped result old new
-Refused (status.WriteFault role) result old new = Said (status.WriteFault role) result old new (text_of (status.WriteFault role))
+Refused (status.WriteFault role) result old new = IsSaidLine (status.WriteFault role) result old new (text_of (status.WriteFault role))
 Refused other result old new = SaidIfMade other result old new

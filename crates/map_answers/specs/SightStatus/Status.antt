@@ -22,22 +22,22 @@ done_as true = status.Done
 done_as false = status.NotRight
 
 -- the exit status of the program
-abbrev pub number_of : Status → ℕ
-number_of status.Done = 0
-number_of status.NotRight = 1
-number_of (status.No why) = 1
-number_of status.Usage = 2
-number_of (status.NoFile role) = 3
-number_of (status.ReadFault role) = 4
-number_of (status.WriteFault role) = 5
-number_of (status.NotWad fault) = 6
-number_of (status.NoMap fault) = 7
-number_of (status.BadLump fault) = 8
-number_of (status.BadText fault) = 8
-number_of (status.Limit bound) = 9
-number_of (status.BadMap flaw) = 10
-number_of status.SameName = 11
-number_of (status.Memory _) = 12
+abbrev pub exit_status_of : Status → ℕ
+exit_status_of status.Done = 0
+exit_status_of status.NotRight = 1
+exit_status_of (status.No why) = 1
+exit_status_of status.Usage = 2
+exit_status_of (status.NoFile role) = 3
+exit_status_of (status.ReadFault role) = 4
+exit_status_of (status.WriteFault role) = 5
+exit_status_of (status.NotWad fault) = 6
+exit_status_of (status.NoMap fault) = 7
+exit_status_of (status.BadLump fault) = 8
+exit_status_of (status.BadText fault) = 8
+exit_status_of (status.Limit bound) = 9
+exit_status_of (status.BadMap flaw) = 10
+exit_status_of status.SameName = 11
+exit_status_of (status.Memory _) = 12
 
 -- too many lumps are a limit, and want of memory is a status of its own
 abbrev pub IsWadFault : WadFault → Type 0

@@ -104,16 +104,16 @@ abbrev pub flaw_words : Flaw → List ℕ
 flaw_words (flaw.Line fault) = clash_words fault
 flaw_words (flaw.Open side) = codes "open " ++ side_text side ++ codes "\n"
 
-abbrev pub ray_words : RayFault → List ℕ
-ray_words ray.Range = codes "range\n"
-ray_words (ray.BadSide side) = codes "side " ++ side_text side ++ codes "\n"
-ray_words (ray.NotSplit line) = codes "not split " ++ decimal line ++ codes "\n"
-ray_words (ray.WrongWay line) = codes "wrong way " ++ decimal line ++ codes "\n"
-ray_words ray.Backwards = codes "backwards\n"
-ray_words (ray.Blocked line) = codes "blocked " ++ decimal line ++ codes "\n"
+abbrev pub ray_fault_words : RayFault → List ℕ
+ray_fault_words ray.Range = codes "range\n"
+ray_fault_words (ray.BadSide side) = codes "side " ++ side_text side ++ codes "\n"
+ray_fault_words (ray.NotSplit line) = codes "not split " ++ decimal line ++ codes "\n"
+ray_fault_words (ray.WrongWay line) = codes "wrong way " ++ decimal line ++ codes "\n"
+ray_fault_words ray.Backwards = codes "backwards\n"
+ray_fault_words (ray.Blocked line) = codes "blocked " ++ decimal line ++ codes "\n"
 
 abbrev pub trace_words : TraceFault → List ℕ
-trace_words (trace.BadRay fault) = codes "no ray: " ++ ray_words fault
+trace_words (trace.BadRay fault) = codes "no ray: " ++ ray_fault_words fault
 trace_words (trace.HitsSolid line) = codes "no trace: solid " ++ decimal line ++ codes "\n"
 trace_words (trace.HitsPoint point) = codes "no trace: point " ++ decimal point ++ codes "\n"
 trace_words (trace.Memory _) = codes "no trace: memory\n"
@@ -141,7 +141,7 @@ mesh_words (mesh.Inside triangle point) = codes "inside " ++ two triangle point 
 
 -- a ray of a certificate that is none, or joins other sectors than its pair
 abbrev pub why_words : Option RayFault → List ℕ
-why_words (Some fault) = ray_words fault
+why_words (Some fault) = ray_fault_words fault
 why_words None = codes "other sectors\n"
 
 abbrev pub check_words : CheckFault → List ℕ
@@ -154,7 +154,7 @@ check_words (check.Uncovered a b) = codes "no uncovered " ++ two a b ++ codes "\
 
 -- the line of a no
 abbrev pub no_words : Why → List ℕ
-no_words (why.Ray fault) = codes "no ray: " ++ ray_words fault
+no_words (why.Ray fault) = codes "no ray: " ++ ray_fault_words fault
 no_words (why.Trace fault) = trace_words fault
 no_words (why.Table fault) = table_words fault
 no_words (why.Cert fault) = codes "no cert: " ++ cert_words fault

@@ -1,7 +1,7 @@
 //! How a run ends.
 
 ghost use Rattle.std.specs.Prelude.{◌≡◌};
-ghost use Rattle.map_answers.specs.SightStatus.Status.{done_as, number_of};
+ghost use Rattle.map_answers.specs.SightStatus.Status.{done_as, exit_status_of};
 
 use sight_names::{
     CertFault, CheckFault, LineFault, LumpFault, MapFault, Memory, RayFault, Side, TableFault,
@@ -109,7 +109,7 @@ pub fn done_as(right: bool) -> Status
 
 /// The exit status of the program.
 pub fn code(status: &Status) -> u8
-    ensures { result ≡ number_of status.now }
+    ensures { result ≡ exit_status_of status.now }
 {
     match status {
         Status::Done => 0,

@@ -3,8 +3,8 @@
 ghost use Rattle.std.specs.Prelude.{◌≡◌, ◌++◌, string_bytes, codes, OnOk, IfOk};
 ghost use Rattle.std.specs.Fmt.{decimal};
 ghost use Rattle.sight_names.specs.Texts.{side_text};
-ghost use Rattle.map_answers.specs.SightStatus.Texts.{bound_words, cert_words, check_words, clash_words, flaw_words, lump_words, lumps_words, map_words, mesh_words, no_words, ray_words, reason_words, role_words, table_words, text_of, texts_words, trace_words, two, wad_words, why_words};
-ghost use Rattle.map_answers.specs.SightStatus.Say.{Refused, Said, SaidIfMade};
+ghost use Rattle.map_answers.specs.SightStatus.Texts.{bound_words, cert_words, check_words, clash_words, flaw_words, lump_words, lumps_words, map_words, mesh_words, no_words, ray_fault_words, reason_words, role_words, table_words, text_of, texts_words, trace_words, two, wad_words, why_words};
+ghost use Rattle.map_answers.specs.SightStatus.Say.{Refused, IsSaidLine, SaidIfMade};
 
 use crate::sight_status::status::{Bound, Flaw, Role, Status, Why};
 use shelf_io::Sink;
@@ -17,7 +17,7 @@ use udmf_map::TextFault;
 
 /// Puts a line, and gives the status that it tells, or the fault of the sink.
 pub fn put_line<O: Sink>(out: &mut O, line: &[u8], status: Status) -> Status
-    ensures { Said status result (O.state out.old) (O.state out.new) line.now }
+    ensures { IsSaidLine status result (O.state out.old) (O.state out.new) line.now }
 {
     match out.put(line) {
         Ok(()) => status,
@@ -249,7 +249,7 @@ fn push_flaw(alloc: Global, line: &mut String, flaw: Flaw) -> Result<(), AllocEr
 }
 
 fn push_ray(alloc: Global, line: &mut String, fault: RayFault) -> Result<(), AllocError>
-    ensures { OnOk result (string_bytes line.new ≡ string_bytes line.old ++ ray_words fault) }
+    ensures { OnOk result (string_bytes line.new ≡ string_bytes line.old ++ ray_fault_words fault) }
 {
     match fault {
         RayFault::Range => line.push_str("range\n"),

@@ -6,7 +6,7 @@ use Rattle.sight_names.specs.declared.faults.LumpFault.{LumpFault}
 use Rattle.sight_names.specs.declared.faults.LumpFault.TheVariants.{BadSize, TooManySectors, TooManyLines, BadVertex, BadSide, BadSector, TooManyPoints, Memory}
 use Rattle.sight_names.specs.declared.names.MapFormat.TheVariants.{Doom, Hexen}
 use Rattle.sight_names.specs.Limits.{most_lines, most_points, most_sectors}
-use Rattle.sight_names.specs.Lumps.{first_of, fault_if, is_bad_sector, is_bad_side, linedef, line_fault, lines_fault, lump_fault, map_of_lumps, numbers_from, numbers_below, side_sector, vertex}
+use Rattle.sight_names.specs.Lumps.{first_lump_fault, lump_fault_if, is_bad_sector, is_bad_side, linedef, line_fault, lines_fault, lump_fault, map_of_lumps, numbers_from, numbers_below, side_sector, vertex}
 use Rattle.sight_names.specs.Map.{Map, MapLine, map_of}
 use Rattle.sight_names.specs.Plan.{PlanParts, IsPlan}
 use Rattle.sight_names.specs.Points.{points_of, pt_eq}
@@ -32,9 +32,9 @@ line_of sidedefs vertexes first second flags right left =
 
 abbrev fault_of : List ℕ → List ℕ → List ℕ → ℕ → ℕ → ℕ → ℕ → ℕ → Option LumpFault
 fault_of sidedefs vertexes sectors k first second right left =
-    fault_if (nat_le (length vertexes / 4) first || nat_le (length vertexes / 4) second) (BadVertex k)
-    (fault_if (is_bad_side sidedefs right || is_bad_side sidedefs left) (BadSide k)
-    (fault_if (is_bad_sector sidedefs sectors right) (BadSector right) (fault_if (is_bad_sector sidedefs sectors left) (BadSector left) None)))
+    lump_fault_if (nat_le (length vertexes / 4) first || nat_le (length vertexes / 4) second) (BadVertex k)
+    (lump_fault_if (is_bad_side sidedefs right || is_bad_side sidedefs left) (BadSide k)
+    (lump_fault_if (is_bad_sector sidedefs sectors right) (BadSector right) (lump_fault_if (is_bad_sector sidedefs sectors left) (BadSector left) None)))
 
 same_line : (xs ys sidedefs vertexes : List ℕ) (k : ℕ) → HasSameNumbers xs ys k → linedef Hexen ys sidedefs vertexes k ≡ linedef Doom xs sidedefs vertexes k
 same_line xs ys sidedefs vertexes k h = λ i. line_of sidedefs vertexes (h.first i) (h.second i) (h.flags i) (h.right i) (h.left i)
@@ -54,20 +54,20 @@ same_faults : (f g : ℕ → Option LumpFault) (k n : ℕ) (rest : Option LumpFa
 same_faults f g k zero rest same = refl
 same_faults f g k (suc n) rest same =
     let head : f k ≡ g k = subst (λ (j : ℕ). f j ≡ g j) (omega arith) (same 0 (omega arith)) in
-    ap₂ (λ (x y : Option LumpFault). first_of x y) head (same_faults f g (k + 1) n rest (λ j l. subst (λ (i : ℕ). f i ≡ g i) (omega arith) (same (suc j) (omega arith))))
+    ap₂ (λ (x y : Option LumpFault). first_lump_fault x y) head (same_faults f g (k + 1) n rest (λ j l. subst (λ (i : ℕ). f i ≡ g i) (omega arith) (same (suc j) (omega arith))))
 
 -- the checks in their order, where LINEDEFS has whole records or not, and so many
 abbrev checks_of : Bool → List ℕ → List ℕ → List ℕ → Bool → ℕ → Option LumpFault → Option LumpFault
 checks_of large sidedefs vertexes sectors whole n rest =
-    fault_if (not whole) (BadSize Linedefs)
-    (fault_if (not (length sidedefs % 30 == 0)) (BadSize Sidedefs)
-    (fault_if (not (length vertexes % 4 == 0)) (BadSize Vertexes)
-    (fault_if (not (length sectors % 26 == 0)) (BadSize Sectors)
-    (fault_if (nat_lt (most_sectors large) (length sectors / 26)) (TooManySectors (length sectors / 26))
-    (fault_if (nat_lt (most_lines large) n) (TooManyLines n) rest)))))
+    lump_fault_if (not whole) (BadSize Linedefs)
+    (lump_fault_if (not (length sidedefs % 30 == 0)) (BadSize Sidedefs)
+    (lump_fault_if (not (length vertexes % 4 == 0)) (BadSize Vertexes)
+    (lump_fault_if (not (length sectors % 26 == 0)) (BadSize Sectors)
+    (lump_fault_if (nat_lt (most_sectors large) (length sectors / 26)) (TooManySectors (length sectors / 26))
+    (lump_fault_if (nat_lt (most_lines large) n) (TooManyLines n) rest)))))
 
 abbrev points_fault : Bool → Map → Option LumpFault
-points_fault large m = fault_if (nat_lt (most_points large) (length (points_of m))) (TooManyPoints (length (points_of m))) None
+points_fault large m = lump_fault_if (nat_lt (most_points large) (length (points_of m))) (TooManyPoints (length (points_of m))) None
 
 module _ (linedefs sidedefs vertexes sectors : List ℕ) where
   enough : 14 * (length linedefs / 14) ≤ length linedefs
@@ -118,7 +118,7 @@ spells_the_same large linedefs sidedefs vertexes sectors whole = (one_map linede
 -- ---- the same plan
 
 -- lumps that are taken are whole
-first_passes : (b : Bool) (f : LumpFault) (rest : Option LumpFault) → fault_if (not b) f rest ≡ None → b ≡ true
+first_passes : (b : Bool) (f : LumpFault) (rest : Option LumpFault) → lump_fault_if (not b) f rest ≡ None → b ≡ true
 first_passes true f rest e = refl
 first_passes false f rest e = absurd (no e)
   where

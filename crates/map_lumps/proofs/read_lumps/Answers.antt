@@ -2,20 +2,20 @@ use Rattle.std.proofs.Common.{◌≡◌, ◌∙◌, ◌<◌, ◌≤◌, ℕ, Lis
 use Rattle.sight_names.specs.declared.faults.LumpFault.{LumpFault}
 use Rattle.sight_names.specs.declared.faults.LumpFault.TheVariants.{TooManyPoints}
 use Rattle.sight_names.specs.Points.{in_order}
-use Rattle.sight_names.specs.Lumps.{fault_if}
+use Rattle.sight_names.specs.Lumps.{lump_fault_if}
 use Rattle.map_lumps.specs.declared.records.PlacedLine.{PlacedLine}
-use Rattle.map_lumps.specs.Records.{placed_ends, IsInOrder}
+use Rattle.map_lumps.specs.Records.{placed_ends, ArePointsInOrder}
 use Rattle.map_lumps.proofs.WholeMap.{ends_among, points_in_order, fault_left, map_is, plan_is}
 use Rattle.map_lumps.proofs.read_lumps.Goals as goal
 
-too_many : (m n : ℕ) (f : LumpFault) → m < n → fault_if (nat_lt m n) f None ≡ Some f
-too_many m n f h = ap (λ (b : Bool). fault_if b f None) (above m n h)
+too_many : (m n : ℕ) (f : LumpFault) → m < n → lump_fault_if (nat_lt m n) f None ≡ Some f
+too_many m n f h = ap (λ (b : Bool). lump_fault_if b f None) (above m n h)
   where
     above : (m n : ℕ) → m < n → nat_lt m n ≡ true
     above m n h = grind arith
 
-few_enough : (m n : ℕ) (f : LumpFault) → n ≤ m → fault_if (nat_lt m n) f None ≡ None
-few_enough m n f h = ap (λ (b : Bool). fault_if b f None) (within m n h)
+few_enough : (m n : ℕ) (f : LumpFault) → n ≤ m → lump_fault_if (nat_lt m n) f None ≡ None
+few_enough m n f h = ap (λ (b : Bool). lump_fault_if b f None) (within m n h)
   where
     within : (m n : ℕ) → n ≤ m → nat_lt m n ≡ false
     within m n h = grind arith
@@ -30,7 +30,7 @@ returns-then-count-most_points-clause-fault c =
 pub plan_lines-requires-clause-order : goal.plan_lines-requires-clause-order
 plan_lines-requires-clause-order c =
     let are = c.in_ok-points.ensures ∙ ap (λ (ls : List (Option PlacedLine)). in_order (placed_ends ls)) c.as_slice.ensures.value in
-    subst IsInOrder (sym c.as_slice-2.ensures.value) (points_in_order c.args.reading c.args.linedefs.now c.args.sidedefs.now c.args.vertexes.now c.args.sectors.now c.in_ok-placed.placed.items c.in_ok-points.points.items c.in_ok-placed.ensures are)
+    subst ArePointsInOrder (sym c.as_slice-2.ensures.value) (points_in_order c.args.reading c.args.linedefs.now c.args.sidedefs.now c.args.vertexes.now c.args.sectors.now c.in_ok-placed.placed.items c.in_ok-points.points.items c.in_ok-placed.ensures are)
 
 pub plan_lines-requires-clause-ends : goal.plan_lines-requires-clause-ends
 plan_lines-requires-clause-ends c =

@@ -5,7 +5,7 @@ use Rattle.sight_names.specs.declared.names.Ray.{Ray}
 use Rattle.sight_names.specs.declared.names.Triangle.{Triangle}
 use Rattle.sight_names.specs.Point.{Point, point_of}
 use Rattle.sight_names.specs.Map.{Map, MapLine, line_at}
-use Rattle.sight_names.specs.Points.{points_of, place, number_of}
+use Rattle.sight_names.specs.Points.{points_of, place, point_number}
 use Rattle.sight_names.specs.Mesh.{HasEdge, IsPlainMesh}
 use Rattle.sight_names.specs.Sequence.{Portal, entry_edge, third_point, IsSolidLine}
 use Rattle.sight_names.specs.Ray.{SplitsLine, IsCrossing}
@@ -74,8 +74,8 @@ module _ (m : Map) (facts : PointFacts m) (ts : List Triangle) (plain : IsPlainM
       below : (g.q.left < length (points_of m)) × (g.q.right < length (points_of m))
       below = turned_below (length (points_of m)) g.t g.q.left g.q.right _ (plain.triangles.each g.k g.t g.is) (crossed_edge_turned a b c g)
 
-      number_is : (p : Pt) (k : ℕ) → k < length (points_of m) → pv m k ≡ whole p → number_of m p ≡ k
-      number_is p k h e = ap (number_of m) (sym (pt_of_vec (place m k) p e)) ∙ facts.number k h
+      number_is : (p : Pt) (k : ℕ) → k < length (points_of m) → pv m k ≡ whole p → point_number m p ≡ k
+      number_is p k h e = ap (point_number m) (sym (pt_of_vec (place m k) p e)) ∙ facts.number k h
 
       by : SameSegment a b (whole l.first) (whole l.second) → IsSolidLine m g.q
       by (inl (e, f)) = (i, l, true, is, solid, same_edge (number_is l.first g.q.left below.0 (sym g.first ∙ e)) (number_is l.second g.q.right below.1 (sym g.second ∙ f)))

@@ -18,14 +18,14 @@ abbrev pub pt : ℕ → ℕ → Pt
 pt x y = point_at (pos x) (pos y)
 
 -- a line that isn't marked solid: solid where a side is missing
-abbrev pub line : ℕ → ℕ → ℕ → ℕ → Option ℕ → Option ℕ → Option MapLine
-line x y z w right left = Some (record { first = pt x y; second = pt z w; solid = is_none right || is_none left; right = right; left = left })
+abbrev pub worked_line : ℕ → ℕ → ℕ → ℕ → Option ℕ → Option ℕ → Option MapLine
+worked_line x y z w right left = Some (record { first = pt x y; second = pt z w; solid = is_none right || is_none left; right = right; left = left })
 
 abbrev pub wall : ℕ → ℕ → ℕ → ℕ → ℕ → Option MapLine
-wall x y z w right = line x y z w (Some right) None
+wall x y z w right = worked_line x y z w (Some right) None
 
 abbrev pub door : ℕ → ℕ → ℕ → ℕ → ℕ → ℕ → Option MapLine
-door x y z w right left = line x y z w (Some right) (Some left)
+door x y z w right left = worked_line x y z w (Some right) (Some left)
 
 -- ---- one square room, 64 wide: its points are 0 (0,0), 1 (0,64), 2 (64,0), 3 (64,64)
 abbrev pub square : Map
@@ -39,15 +39,15 @@ abbrev pub SquareKeepsADiagonal : Type 0
 SquareKeepsADiagonal = IsGreedy square (edge 0 1 ∷ edge 1 3 ∷ edge 3 2 ∷ edge 2 0 ∷ edge 0 3 ∷ [])
 
 -- ---- two such rooms side by side, with the open line 2 between them
-abbrev pub pair : Map
-pair = record {
+abbrev pub two_rooms : Map
+two_rooms = record {
   sectors = 2;
   lines =
       wall 0 0 0 64 0 ∷ wall 0 64 64 64 0 ∷ door 64 64 64 0 0 1 ∷ wall 64 0 0 0 0 ∷ wall 64 64 128 64 1 ∷ wall 128 64 128 0 1 ∷ wall 128 0 64 0 1 ∷ [];
 }
 
 abbrev pub PairSees : Type 0
-PairSees = Sees pair 0 1
+PairSees = Sees two_rooms 0 1
 
 abbrev pub right_side : ℕ → Side
 right_side n = record { line = n; left = false }
@@ -57,15 +57,15 @@ left_side n = record { line = n; left = true }
 
 -- along y = 32 from the right side of line 2 to its left side
 abbrev pub PairHasASightRay : Type 0
-PairHasASightRay = IsSightRay pair (record { first = right_side 2; last = left_side 2; a = pos 0; b = pos 1; c = negsuc 31 }) 0 1
+PairHasASightRay = IsSightRay two_rooms (record { first = right_side 2; last = left_side 2; a = pos 0; b = pos 1; c = negsuc 31 }) 0 1
 
 -- the same line from the left side: it doesn't leave that side
 abbrev pub PairRayGoesTheWrongWay : Type 0
-PairRayGoesTheWrongWay = (a b : ℕ) → ¬ IsSightRay pair (record { first = left_side 2; last = right_side 2; a = pos 0; b = pos 1; c = negsuc 31 }) a b
+PairRayGoesTheWrongWay = (a b : ℕ) → ¬ IsSightRay two_rooms (record { first = left_side 2; last = right_side 2; a = pos 0; b = pos 1; c = negsuc 31 }) a b
 
 -- along y = 64, on which line 2 has an end
 abbrev pub PairRayDoesntSplit : Type 0
-PairRayDoesntSplit = (a b : ℕ) → ¬ IsSightRay pair (record { first = right_side 2; last = left_side 2; a = pos 0; b = pos 1; c = negsuc 63 }) a b
+PairRayDoesntSplit = (a b : ℕ) → ¬ IsSightRay two_rooms (record { first = right_side 2; last = left_side 2; a = pos 0; b = pos 1; c = negsuc 63 }) a b
 
 -- ---- the square without its last line, and the square with a smaller one inside that it doesn't name
 abbrev pub open_square : Map

@@ -15,8 +15,8 @@ use Rattle.sight_names.proofs.PlanNumbers.{line_edge_of_plan}
 use Rattle.mesh_shape.proofs.RuleLemmas.{plan_line_at}
 use Rattle.mesh_shape.specs.declared.half_edges.kinds.EdgeKind.{EdgeKind}
 use Rattle.mesh_shape.specs.declared.half_edges.kinds.EdgeKind.TheVariants.{Free, Passable, Solid}
-use Rattle.mesh_shape.specs.HalfEdges.Numbers.{number_of}
-use Rattle.mesh_shape.specs.HalfEdges.Kinds.{edge_at, IsEdgeKind, portal_on, kind_at, joined, PutsKind, PutsRecord, AreKinds}
+use Rattle.mesh_shape.specs.HalfEdges.Numbers.{half_edge_number}
+use Rattle.mesh_shape.specs.HalfEdges.Kinds.{edge_at, IsEdgeKind, portal_on, kind_at, joined, PutsKind, PutsRecordKinds, AreKinds}
 use Rattle.mesh_shape.proofs.HalfEdges.Numbers.{one_edge}
 
 -- ---- what is known of an edge when the sides below a rank were seen
@@ -116,27 +116,27 @@ module _ (p : PlanParts) (n : ℕ) (c : Bool) (x : Line) (is : slice_get p.lines
 
 pub record KindsBelow (p : PlanParts) (ts : List Triangle) (m : ℕ) (kinds : List EdgeKind) : Type 0 where
   pub len : length kinds ≡ length ts * 3
-  pub each : (e : Edge) (i : ℕ) → number_of ts e ≡ Some i → (kind : EdgeKind) × (slice_get kinds i ≡ Some kind) × IsKnown p m e kind
+  pub each : (e : Edge) (i : ℕ) → half_edge_number ts e ≡ Some i → (kind : EdgeKind) × (slice_get kinds i ≡ Some kind) × IsKnown p m e kind
 
 pub same_or_not : (o : Option ℕ) (i : ℕ) → (o ≡ Some i) ⊎ (o ≢ Some i)
 same_or_not None i = inr (none-some i)
 same_or_not (Some j) i = elim (cases_eq j i) as (λ _. (Some j ≡ Some i) ⊎ (Some j ≢ Some i)) [ inl h ↦ inl (ap (λ (k : ℕ). let o : Option ℕ = Some k in o) h) | inr h ↦ inr (λ q. h (same_Some j i q)) ]
 
 -- one side put
-side_put : (p : PlanParts) (ts : List Triangle) (points k : ℕ) (left : Bool) (l : Line) (old new : List EdgeKind) → AreTriangles points ts → slice_get p.lines k ≡ Some (Some l) → KindsBelow p ts (rank k left) old → PutsKind (number_of ts (edge_at l left)) (kind_at l k left) old new → KindsBelow p ts (rank k left + 1) new
+side_put : (p : PlanParts) (ts : List Triangle) (points k : ℕ) (left : Bool) (l : Line) (old new : List EdgeKind) → AreTriangles points ts → slice_get p.lines k ≡ Some (Some l) → KindsBelow p ts (rank k left) old → PutsKind (half_edge_number ts (edge_at l left)) (kind_at l k left) old new → KindsBelow p ts (rank k left + 1) new
 side_put p ts points k left l old new all is f g = record { len = g.len ∙ f.len; each = λ e i h. by e i h (f.each e i h) }
   where
-    by : (e : Edge) (i : ℕ) → number_of ts e ≡ Some i → (kind : EdgeKind) × (slice_get old i ≡ Some kind) × IsKnown p (rank k left) e kind → (kind : EdgeKind) × (slice_get new i ≡ Some kind) × IsKnown p (rank k left + 1) e kind
-    by e i h (kind, at, known) = elim (same_or_not (number_of ts (edge_at l left)) i) as (λ _. (kind : EdgeKind) × (slice_get new i ≡ Some kind) × IsKnown p (rank k left + 1) e kind) [
+    by : (e : Edge) (i : ℕ) → half_edge_number ts e ≡ Some i → (kind : EdgeKind) × (slice_get old i ≡ Some kind) × IsKnown p (rank k left) e kind → (kind : EdgeKind) × (slice_get new i ≡ Some kind) × IsKnown p (rank k left + 1) e kind
+    by e i h (kind, at, known) = elim (same_or_not (half_edge_number ts (edge_at l left)) i) as (λ _. (kind : EdgeKind) × (slice_get new i ≡ Some kind) × IsKnown p (rank k left + 1) e kind) [
       | inl q ↦ (joined kind (kind_at l k left), g.here i q ∙ ap (option_map (λ (o : EdgeKind). joined o (kind_at l k left))) at, known_with p k left l is e kind (one_edge points ts all (edge_at l left) e i q h) known)
-      | inr q ↦ (kind, g.others i q ∙ at, known_over p k left l is e kind (λ s. q (ap (number_of ts) s ∙ h)) known)
+      | inr q ↦ (kind, g.others i q ∙ at, known_over p k left l is e kind (λ s. q (ap (half_edge_number ts) s ∙ h)) known)
     ]
 
 kinds_same : (p : PlanParts) (ts : List Triangle) (m n : ℕ) (kinds : List EdgeKind) → m ≡ n → KindsBelow p ts m kinds → KindsBelow p ts n kinds
 kinds_same p ts m n kinds e h = subst (λ (r : ℕ). KindsBelow p ts r kinds) e h
 
 -- one record put
-record_put : (p : PlanParts) (ts : List Triangle) (points k : ℕ) (entry : Option Line) (old new : List EdgeKind) → AreTriangles points ts → slice_get p.lines k ≡ Some entry → KindsBelow p ts (k * 2) old → PutsRecord ts k entry old new → KindsBelow p ts ((k + 1) * 2) new
+record_put : (p : PlanParts) (ts : List Triangle) (points k : ℕ) (entry : Option Line) (old new : List EdgeKind) → AreTriangles points ts → slice_get p.lines k ≡ Some entry → KindsBelow p ts (k * 2) old → PutsRecordKinds ts k entry old new → KindsBelow p ts ((k + 1) * 2) new
 record_put p ts points k None old new all is f g = record { len = ap length g ∙ f.len; each = λ e i h. by e i (f.each e i h) }
   where
     back : (e : Edge) (j : ℕ) (left : Bool) (l : Line) → rank j left < (k + 1) * 2 → IsSideOn p e j left l → rank j left < k * 2
@@ -160,7 +160,7 @@ record_put p ts points k (Some l) old new all is f g =
     let two = side_put p ts points k false l g.middle new all is one g.right in
     kinds_same p ts (k * 2 + 1 + 1) ((k + 1) * 2) new (omega arith) two
 
-pub kinds_step : (p : PlanParts) (ts : List Triangle) (points k : ℕ) (lines : List (Option Line)) (d : Option Line) (old middle new : List EdgeKind) → AreTriangles points ts → lines ≡ p.lines → k < length lines → KindsBelow p ts (k * 2) old → middle ≡ old → PutsRecord ts k (get_or lines k d) middle new → KindsBelow p ts ((k + 1) * 2) new
+pub kinds_step : (p : PlanParts) (ts : List Triangle) (points k : ℕ) (lines : List (Option Line)) (d : Option Line) (old middle new : List EdgeKind) → AreTriangles points ts → lines ≡ p.lines → k < length lines → KindsBelow p ts (k * 2) old → middle ≡ old → PutsRecordKinds ts k (get_or lines k d) middle new → KindsBelow p ts ((k + 1) * 2) new
 kinds_step p ts points k lines d old middle new all e l f same g = record_put p ts points k (get_or lines k d) middle new all (subst (λ (ls : List (Option Line)). slice_get ls k ≡ Some (get_or lines k d)) e (slice_get-get_or lines k d l)) (subst (KindsBelow p ts (k * 2)) (sym same) f) g
 
 -- the kinds of a slice put back into their vector

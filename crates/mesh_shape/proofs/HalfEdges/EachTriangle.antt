@@ -15,10 +15,10 @@ use Rattle.mesh_shape.specs.declared.half_edges.kinds.EdgeKind.{EdgeKind}
 use Rattle.mesh_shape.specs.declared.half_edges.kinds.EdgeKind.TheVariants.{Free, Passable, Solid}
 use Rattle.mesh_shape.specs.declared.half_edges.table.Corner.{Corner}
 use Rattle.mesh_shape.specs.declared.half_edges.table.HalfEdge.{HalfEdge}
-use Rattle.mesh_shape.specs.HalfEdges.Numbers.{edge, number_of}
-use Rattle.mesh_shape.specs.HalfEdges.Kinds.{IsEdgeKind, IsEnteredAt, AreKinds, portal_on, kind_with, way_of, way_by}
-use Rattle.mesh_shape.specs.HalfEdges.HalfEdges.{portal_of, entering, IsHalfEdge, AreHalfEdges}
-use Rattle.mesh_shape.specs.HalfEdges.Corners.{arrival_of, is_closed, IsCorner, by_corners, three_of, Pushes}
+use Rattle.mesh_shape.specs.HalfEdges.Numbers.{edge, half_edge_number}
+use Rattle.mesh_shape.specs.HalfEdges.Kinds.{IsEdgeKind, IsEnteredAt, AreKinds, portal_on, kind_with, way_of_kind, way_by_edge}
+use Rattle.mesh_shape.specs.HalfEdges.HalfEdges.{portal_into, entering, IsHalfEdge, AreHalfEdges}
+use Rattle.mesh_shape.specs.HalfEdges.Corners.{arrival_of, is_solid_kind, IsCorner, by_corners, three_of, Pushes}
 use Rattle.mesh_shape.proofs.HalfEdges.Numbers.{IsNumber, number_is, IsCornerEdge, corner_at}
 use Rattle.math_base.proofs.Numbers.{below_differs, tells_other, tells_same}
 use Rattle.math_base.proofs.Lists.{item_there}
@@ -148,7 +148,7 @@ module _ (p : PlanParts) (ts : List Triangle) (labels : List (Option ℕ)) (kind
     corner_moved : (i j from to : ℕ) (c : Corner) → i ≡ j → IsCorner p ts kinds i from to c → IsCorner p ts kinds j from to c
     corner_moved i j from to c q h = subst (λ (n : ℕ). IsCorner p ts kinds n from to c) q h
 
-    found : (e : Edge) (i : ℕ) → number_of ts e ≡ Some i → IsFound e i
+    found : (e : Edge) (i : ℕ) → half_edge_number ts e ≡ Some i → IsFound e i
     found e i h = by (number_is ts e i h)
       where
         by : IsNumber ts e i → IsFound e i
@@ -229,37 +229,37 @@ module _ (p : PlanParts) (ts : List Triangle) (labels : List (Option ℕ)) (kind
             }
 
     -- what the kinds say of a way is what the half-edges say
-    open_too : (i : ℕ) (kind : EdgeKind) → way_of i kind ≡ (let o : Option ℕ = if is_closed kind then None else Some i in o)
+    open_too : (i : ℕ) (kind : EdgeKind) → way_of_kind i kind ≡ (let o : Option ℕ = if is_solid_kind kind then None else Some i in o)
     open_too i Free = refl
     open_too i (Passable s) = refl
     open_too i Solid = refl
 
-    ways_agree : (d : Edge) → way_by ts kinds d ≡ entering ts xs d
-    ways_agree d = at (number_of ts d) refl
+    ways_agree : (d : Edge) → way_by_edge ts kinds d ≡ entering ts xs d
+    ways_agree d = at (half_edge_number ts d) refl
       where
         via : ℕ → Option ℕ
-        via i = option_and_then (way_of i) (slice_get kinds i)
+        via i = option_and_then (way_of_kind i) (slice_get kinds i)
 
         into : ℕ → Option ℕ
         into i = option_and_then (λ (x : HalfEdge). let o : Option ℕ = if x.solid then None else Some i in o) (slice_get xs i)
 
-        here : (i : ℕ) → number_of ts d ≡ Some i → via i ≡ into i
+        here : (i : ℕ) → half_edge_number ts d ≡ Some i → via i ≡ into i
         here i h = by (found d i h) (known.each d i h)
           where
             by : IsFound d i → (kind : EdgeKind) × (slice_get kinds i ≡ Some kind) × IsEdgeKind p d kind → via i ≡ into i
-            by f (kind, is, means) = ap (option_and_then (way_of i)) is ∙ open_too i kind ∙ ap (λ (b : EdgeKind). let o : Option ℕ = if is_closed b then None else Some i in o) (sym (f.is_left.kind ∙ kind_here i kind is))
+            by f (kind, is, means) = ap (option_and_then (way_of_kind i)) is ∙ open_too i kind ∙ ap (λ (b : EdgeKind). let o : Option ℕ = if is_solid_kind b then None else Some i in o) (sym (f.is_left.kind ∙ kind_here i kind is))
                 ∙ sym (ap (option_and_then (λ (x : HalfEdge). let o : Option ℕ = if x.solid then None else Some i in o)) f.at)
 
-        at : (o : Option ℕ) → number_of ts d ≡ o → way_by ts kinds d ≡ entering ts xs d
+        at : (o : Option ℕ) → half_edge_number ts d ≡ o → way_by_edge ts kinds d ≡ entering ts xs d
         at None h = ap (option_and_then via) h ∙ sym (ap (option_and_then into) h)
         at (Some i) h = ap (option_and_then via) h ∙ here i h ∙ sym (ap (option_and_then into) h)
 
-    solid_means : (e : Edge) (kind : EdgeKind) → IsEdgeKind p e kind → IsTrue (is_closed kind) ↔ IsSolidLine (map_of p) (portal_on e)
+    solid_means : (e : Edge) (kind : EdgeKind) → IsEdgeKind p e kind → IsTrue (is_solid_kind kind) ↔ IsSolidLine (map_of p) (portal_on e)
     solid_means e Free h = (λ q. absurd (false≢true q), λ s. absurd (h (s.0, s.1, s.2, s.3, sym s.5)))
     solid_means e (Passable s) h = (λ q. absurd (false≢true q), λ s. absurd (h.1 s))
     solid_means e Solid h = (λ q. h, λ s. refl)
 
-    entered_means : (e : Edge) (kind : EdgeKind) → IsEdgeKind p e kind → is_closed kind ≡ false → IsEnteredAt p (portal_on e) (arrival_of kind)
+    entered_means : (e : Edge) (kind : EdgeKind) → IsEdgeKind p e kind → is_solid_kind kind ≡ false → IsEnteredAt p (portal_on e) (arrival_of kind)
     entered_means e Free h q = h
     entered_means e (Passable s) h q = h.0
     entered_means e Solid h q = absurd (true≢false q)
@@ -270,7 +270,7 @@ module _ (p : PlanParts) (ts : List Triangle) (labels : List (Option ℕ)) (kind
     same_edge : {a b c d : ℕ} → a ≡ c → b ≡ d → edge a b ≡ edge c d
     same_edge e f = cc
 
-    half_edge_is : (e : Edge) (i : ℕ) → number_of ts e ≡ Some i → (f : IsFound e i) → IsHalfEdge p ts labels xs e (by_corners f.k (label_of labels f.k) f.left f.right f.other)
+    half_edge_is : (e : Edge) (i : ℕ) → half_edge_number ts e ≡ Some i → (f : IsFound e i) → IsHalfEdge p ts labels xs e (by_corners f.k (label_of labels f.k) f.left f.right f.other)
     half_edge_is e i h f = record {
       portal = whole;
       triangle = f.found;
@@ -288,18 +288,18 @@ module _ (p : PlanParts) (ts : List Triangle) (labels : List (Option ℕ)) (kind
         x : HalfEdge
         x = by_corners f.k (label_of labels f.k) f.left f.right f.other
 
-        whole : portal_of x ≡ portal_on e
+        whole : portal_into x ≡ portal_on e
         whole = same_portal f.is_left.point f.is_right.point ∙ ap portal_on (sym f.ends)
 
         third : apex ts (portal_on e) ≡ Some f.other.point
         third = ap (λ (o : Option ℕ). option_map (third_point e) (option_and_then (slice_get ts) o)) f.found ∙ ap (option_map (third_point e)) f.there ∙ ap (λ (n : ℕ). let o : Option ℕ = Some n in o) (ap (λ (d : Edge). third_point d f.t) f.ends ∙ f.apex_is ∙ sym f.is_other.point)
 
-        means : (IsTrue (is_closed f.left.kind) ↔ IsSolidLine (map_of p) (portal_of x)) × (is_closed f.left.kind ≡ false → IsEnteredAt p (portal_of x) (arrival_of f.left.kind))
+        means : (IsTrue (is_solid_kind f.left.kind) ↔ IsSolidLine (map_of p) (portal_into x)) × (is_solid_kind f.left.kind ≡ false → IsEnteredAt p (portal_into x) (arrival_of f.left.kind))
         means = by (known.each e i h)
           where
-            by : (kind : EdgeKind) × (slice_get kinds i ≡ Some kind) × IsEdgeKind p e kind → (IsTrue (is_closed f.left.kind) ↔ IsSolidLine (map_of p) (portal_of x)) × (is_closed f.left.kind ≡ false → IsEnteredAt p (portal_of x) (arrival_of f.left.kind))
-            by (kind, is, means) = subst (λ (q : Portal). (IsTrue (is_closed f.left.kind) ↔ IsSolidLine (map_of p) q) × (is_closed f.left.kind ≡ false → IsEnteredAt p q (arrival_of f.left.kind))) (sym whole)
-                (subst (λ (b : EdgeKind). (IsTrue (is_closed b) ↔ IsSolidLine (map_of p) (portal_on e)) × (is_closed b ≡ false → IsEnteredAt p (portal_on e) (arrival_of b))) (sym (f.is_left.kind ∙ kind_here i kind is)) (solid_means e kind means, entered_means e kind means))
+            by : (kind : EdgeKind) × (slice_get kinds i ≡ Some kind) × IsEdgeKind p e kind → (IsTrue (is_solid_kind f.left.kind) ↔ IsSolidLine (map_of p) (portal_into x)) × (is_solid_kind f.left.kind ≡ false → IsEnteredAt p (portal_into x) (arrival_of f.left.kind))
+            by (kind, is, means) = subst (λ (q : Portal). (IsTrue (is_solid_kind f.left.kind) ↔ IsSolidLine (map_of p) q) × (is_solid_kind f.left.kind ≡ false → IsEnteredAt p q (arrival_of f.left.kind))) (sym whole)
+                (subst (λ (b : EdgeKind). (IsTrue (is_solid_kind b) ↔ IsSolidLine (map_of p) (portal_on e)) × (is_solid_kind b ≡ false → IsEnteredAt p (portal_on e) (arrival_of b))) (sym (f.is_left.kind ∙ kind_here i kind is)) (solid_means e kind means, entered_means e kind means))
 
     pub edges_all : AreHalfEdges p ts labels xs
     edges_all = record {

@@ -5,7 +5,7 @@ use Rattle.sight_names.specs.declared.names.Triangle.{Triangle}
 use Rattle.sight_names.specs.Points.{Edge}
 use Rattle.sight_names.specs.Mesh.{triangle_at, HasEdge, IsTriangle, AreTriangles}
 use Rattle.mesh_shape.proofs.RuleLemmas.{edge_cases}
-use Rattle.mesh_shape.specs.HalfEdges.Numbers.{edge, corner_of, number_of}
+use Rattle.mesh_shape.specs.HalfEdges.Numbers.{edge, corner_of, half_edge_number}
 use Rattle.math_base.proofs.Numbers.{below_differs, tells_other, tells_same}
 use Rattle.mesh_base.proofs.GoodMesh.{found_at}
 
@@ -17,7 +17,7 @@ pub record IsNumber (ts : List Triangle) (e : Edge) (i : ℕ) : Type 0 where
   pub is : slice_get ts triangle ≡ Some corners
   pub number : i ≡ triangle * 3 + corner_of e corners
 
-pub number_is : (ts : List Triangle) (e : Edge) (i : ℕ) → number_of ts e ≡ Some i → IsNumber ts e i
+pub number_is : (ts : List Triangle) (e : Edge) (i : ℕ) → half_edge_number ts e ≡ Some i → IsNumber ts e i
 number_is ts e i h = at (triangle_at ts e) refl h
   where
     here : (k : ℕ) (o : Option Triangle) → triangle_at ts e ≡ Some k → slice_get ts k ≡ o → option_map (λ (t : Triangle). k * 3 + corner_of e t) o ≡ Some i → IsNumber ts e i
@@ -28,11 +28,11 @@ number_is ts e i h = at (triangle_at ts e) refl h
     at None f q = absurd (none-some i q)
     at (Some k) f q = here k (slice_get ts k) f refl q
 
-pub number_at : (ts : List Triangle) (e : Edge) (k : ℕ) (t : Triangle) → triangle_at ts e ≡ Some k → slice_get ts k ≡ Some t → number_of ts e ≡ Some (k * 3 + corner_of e t)
+pub number_at : (ts : List Triangle) (e : Edge) (k : ℕ) (t : Triangle) → triangle_at ts e ≡ Some k → slice_get ts k ≡ Some t → half_edge_number ts e ≡ Some (k * 3 + corner_of e t)
 number_at ts e k t f g = ap (option_and_then (λ j. option_map (λ (u : Triangle). j * 3 + corner_of e u) (slice_get ts j))) f ∙ ap (option_map (λ (u : Triangle). k * 3 + corner_of e u)) g
 
 -- where no half-edge goes along the edge, no triangle has it
-pub no_number : (ts : List Triangle) (e : Edge) → number_of ts e ≡ None → triangle_at ts e ≡ None
+pub no_number : (ts : List Triangle) (e : Edge) → half_edge_number ts e ≡ None → triangle_at ts e ≡ None
 no_number ts e h = at (triangle_at ts e) refl
   where
     at : (o : Option ℕ) → triangle_at ts e ≡ o → triangle_at ts e ≡ None
@@ -80,7 +80,7 @@ module _ (n : ℕ) (ts : List Triangle) (all : AreTriangles n ts) where
       at (t, h, k) = corner_is n a.corners e (all.each a.triangle a.corners a.is) (subst (λ (x : Triangle). HasEdge x e) (same_Some t a.corners (sym h ∙ a.is)) k)
 
   -- one number has one edge
-  pub one_edge : (e f : Edge) (i : ℕ) → number_of ts e ≡ Some i → number_of ts f ≡ Some i → e ≡ f
+  pub one_edge : (e f : Edge) (i : ℕ) → half_edge_number ts e ≡ Some i → half_edge_number ts f ≡ Some i → e ≡ f
   one_edge e f i g h = by (number_is ts e i g) (number_is ts f i h)
     where
       by : IsNumber ts e i → IsNumber ts f i → e ≡ f

@@ -10,32 +10,32 @@ use Rattle.sight_names.specs.Mesh.{HasEdge, triangle_at}
 use Rattle.sight_names.specs.Sequence.{names_it, third_point, IsSolidLine}
 use Rattle.mesh_base.proofs.CleanMesh.{IsTurnedTo, turned_to_third, edge_rp, edge_qr, edge_pq}
 use Rattle.mesh_shape.specs.declared.half_edges.table.HalfEdge.{HalfEdge}
-use Rattle.mesh_shape.specs.HalfEdges.Numbers.{edge, number_of}
+use Rattle.mesh_shape.specs.HalfEdges.Numbers.{edge, half_edge_number}
 use Rattle.mesh_shape.specs.HalfEdges.Kinds.{portal_on}
-use Rattle.mesh_shape.specs.HalfEdges.HalfEdges.{portal_of, entering, way_outside, IsHalfEdge, AreHalfEdges}
+use Rattle.mesh_shape.specs.HalfEdges.HalfEdges.{portal_into, entering, way_outside, IsHalfEdge, AreHalfEdges}
 use Rattle.mesh_shape.proofs.HalfEdges.Numbers.{no_number}
 
 -- the half-edge behind a way
 pub record IsReached (p : PlanParts) (ts : List Triangle) (labels : List (Option ℕ)) (xs : List HalfEdge) (e : Edge) (i : ℕ) : Type 0 where
   pub x : HalfEdge
   pub at : slice_get xs i ≡ Some x
-  pub number : number_of ts e ≡ Some i
+  pub number : half_edge_number ts e ≡ Some i
   pub is : IsHalfEdge p ts labels xs e x
   pub open_ : x.solid ≡ false
-  pub no_wall : ¬ IsSolidLine (map_of p) (portal_of x)
+  pub no_wall : ¬ IsSolidLine (map_of p) (portal_into x)
 
 module _ (p : PlanParts) (ts : List Triangle) (labels : List (Option ℕ)) (xs : List HalfEdge) (are : AreHalfEdges p ts labels xs) where
   -- what entering says of a number whose half-edge is told
-  pub entering_at : (e : Edge) (i : ℕ) (x : HalfEdge) → number_of ts e ≡ Some i → slice_get xs i ≡ Some x → entering ts xs e ≡ (let o : Option ℕ = if x.solid then None else Some i in o)
+  pub entering_at : (e : Edge) (i : ℕ) (x : HalfEdge) → half_edge_number ts e ≡ Some i → slice_get xs i ≡ Some x → entering ts xs e ≡ (let o : Option ℕ = if x.solid then None else Some i in o)
   entering_at e i x h f = ap (option_and_then (λ j. option_and_then (λ (y : HalfEdge). let o : Option ℕ = if y.solid then None else Some j in o) (slice_get xs j))) h ∙ ap (option_and_then (λ (y : HalfEdge). let o : Option ℕ = if y.solid then None else Some i in o)) f
 
-  pub entering_nowhere : (e : Edge) → number_of ts e ≡ None → entering ts xs e ≡ None
+  pub entering_nowhere : (e : Edge) → half_edge_number ts e ≡ None → entering ts xs e ≡ None
   entering_nowhere e h = ap (option_and_then (λ j. option_and_then (λ (y : HalfEdge). let o : Option ℕ = if y.solid then None else Some j in o) (slice_get xs j))) h
 
   pub reached : (e : Edge) (i : ℕ) → entering ts xs e ≡ Some i → IsReached p ts labels xs e i
-  reached e i h = at (number_of ts e) refl
+  reached e i h = at (half_edge_number ts e) refl
     where
-      by : (j : ℕ) (x : HalfEdge) → number_of ts e ≡ Some j → slice_get xs j ≡ Some x → IsHalfEdge p ts labels xs e x → (b : Bool) → x.solid ≡ b → IsReached p ts labels xs e i
+      by : (j : ℕ) (x : HalfEdge) → half_edge_number ts e ≡ Some j → slice_get xs j ≡ Some x → IsHalfEdge p ts labels xs e x → (b : Bool) → x.solid ≡ b → IsReached p ts labels xs e i
       by j x n f is true s = absurd (none-some i (sym (entering_at e j x n f ∙ ap (λ (b : Bool). let o : Option ℕ = if b then None else Some j in o) s) ∙ h))
       by j x n f is false s =
           let q : j ≡ i = same_Some j i (sym (entering_at e j x n f ∙ ap (λ (b : Bool). let o : Option ℕ = if b then None else Some j in o) s) ∙ h) in
@@ -48,19 +48,19 @@ module _ (p : PlanParts) (ts : List Triangle) (labels : List (Option ℕ)) (xs :
             no_wall = λ w. true≢false (sym (is.solid.1 w) ∙ s);
           }
 
-      at : (o : Option ℕ) → number_of ts e ≡ o → IsReached p ts labels xs e i
+      at : (o : Option ℕ) → half_edge_number ts e ≡ o → IsReached p ts labels xs e i
       at None n = absurd (none-some i (sym (entering_nowhere e n) ∙ h))
       at (Some j) n = let f = are.each e j n in by j f.0 n f.1 f.2 f.0.solid refl
 
   -- no way leads where no triangle is, or through a solid line
   pub not_reached : (e : Edge) → entering ts xs e ≡ None → (triangle_at ts e ≡ None) ⊎ IsSolidLine (map_of p) (portal_on e)
-  not_reached e h = at (number_of ts e) refl
+  not_reached e h = at (half_edge_number ts e) refl
     where
-      by : (j : ℕ) (x : HalfEdge) → number_of ts e ≡ Some j → slice_get xs j ≡ Some x → IsHalfEdge p ts labels xs e x → (b : Bool) → x.solid ≡ b → (triangle_at ts e ≡ None) ⊎ IsSolidLine (map_of p) (portal_on e)
+      by : (j : ℕ) (x : HalfEdge) → half_edge_number ts e ≡ Some j → slice_get xs j ≡ Some x → IsHalfEdge p ts labels xs e x → (b : Bool) → x.solid ≡ b → (triangle_at ts e ≡ None) ⊎ IsSolidLine (map_of p) (portal_on e)
       by j x n f is true s = inr (subst (IsSolidLine (map_of p)) is.portal (is.solid.0 s))
       by j x n f is false s = absurd (none-some j (sym h ∙ entering_at e j x n f ∙ ap (λ (b : Bool). let o : Option ℕ = if b then None else Some j in o) s))
 
-      at : (o : Option ℕ) → number_of ts e ≡ o → (triangle_at ts e ≡ None) ⊎ IsSolidLine (map_of p) (portal_on e)
+      at : (o : Option ℕ) → half_edge_number ts e ≡ o → (triangle_at ts e ≡ None) ⊎ IsSolidLine (map_of p) (portal_on e)
       at None n = inl (no_number ts e n)
       at (Some j) n = let f = are.each e j n in by j f.0 n f.1 f.2 f.0.solid refl
 

@@ -10,7 +10,7 @@ use Rattle.sight_names.specs.Mesh.{side_edge, IsLineEdge}
 use Rattle.sight_names.specs.Sequence.{Portal, entry_edge, IsSolidLine}
 use Rattle.mesh_shape.specs.declared.half_edges.kinds.EdgeKind.{EdgeKind}
 use Rattle.mesh_shape.specs.declared.half_edges.kinds.EdgeKind.TheVariants.{Free, Passable, Solid}
-use Rattle.mesh_shape.specs.HalfEdges.Numbers.{number_of}
+use Rattle.mesh_shape.specs.HalfEdges.Numbers.{half_edge_number}
 
 -- the directed edge of the triangle at a side of a line, by point numbers
 abbrev pub edge_at : Line → Bool → Edge
@@ -58,30 +58,30 @@ pub record PutsKind (number : Option ℕ) (kind : EdgeKind) (old new : List Edge
   pub others : (i : ℕ) → number ≢ Some i → slice_get new i ≡ slice_get old i
 
 -- the same for both edges of the line with this record number
-pub record PutsLine (ts : List Triangle) (k : ℕ) (l : Line) (old new : List EdgeKind) : Type 0 where
+pub record PutsLineKinds (ts : List Triangle) (k : ℕ) (l : Line) (old new : List EdgeKind) : Type 0 where
   pub middle : List EdgeKind
-  pub left : PutsKind (number_of ts (edge_at l true)) (kind_at l k true) old middle
-  pub right : PutsKind (number_of ts (edge_at l false)) (kind_at l k false) middle new
+  pub left : PutsKind (half_edge_number ts (edge_at l true)) (kind_at l k true) old middle
+  pub right : PutsKind (half_edge_number ts (edge_at l false)) (kind_at l k false) middle new
 
 -- and nothing for a record without a line
-abbrev pub PutsRecord : List Triangle → ℕ → Option Line → List EdgeKind → List EdgeKind → Type 0
-PutsRecord ts k None old new = new ≡ old
-PutsRecord ts k (Some l) old new = PutsLine ts k l old new
+abbrev pub PutsRecordKinds : List Triangle → ℕ → Option Line → List EdgeKind → List EdgeKind → Type 0
+PutsRecordKinds ts k None old new = new ≡ old
+PutsRecordKinds ts k (Some l) old new = PutsLineKinds ts k l old new
 
 -- for each half-edge what its edge is
 pub record AreKinds (p : PlanParts) (ts : List Triangle) (kinds : List EdgeKind) : Type 0 where
   pub len : length kinds ≡ length ts * 3
-  pub each : (e : Edge) (i : ℕ) → number_of ts e ≡ Some i → (kind : EdgeKind) × (slice_get kinds i ≡ Some kind) × IsEdgeKind p e kind
+  pub each : (e : Edge) (i : ℕ) → half_edge_number ts e ≡ Some i → (kind : EdgeKind) × (slice_get kinds i ≡ Some kind) × IsEdgeKind p e kind
 
 -- the kind with this number
 abbrev pub kind_with : List EdgeKind → ℕ → EdgeKind
 kind_with kinds i = slice_index_or kinds i Free
 
-abbrev pub way_of : ℕ → EdgeKind → Option ℕ
-way_of i Free = Some i
-way_of i (Passable s) = Some i
-way_of i Solid = None
+abbrev pub way_of_kind : ℕ → EdgeKind → Option ℕ
+way_of_kind i Free = Some i
+way_of_kind i (Passable s) = Some i
+way_of_kind i Solid = None
 
 -- the half-edge along the edge, unless the edge is a solid line or no triangle has it
-abbrev pub way_by : List Triangle → List EdgeKind → Edge → Option ℕ
-way_by ts kinds e = option_and_then (λ i. option_and_then (way_of i) (slice_get kinds i)) (number_of ts e)
+abbrev pub way_by_edge : List Triangle → List EdgeKind → Edge → Option ℕ
+way_by_edge ts kinds e = option_and_then (λ i. option_and_then (way_of_kind i) (slice_get kinds i)) (half_edge_number ts e)

@@ -12,5 +12,5 @@ abbrev pub corner_of : Edge → Triangle → ℕ
 corner_of e t = if t.p == e.from then 0 else (if t.q == e.from then 1 else 2)
 
 -- the number of the half-edge along the directed edge, of the least triangle that has it
-abbrev pub number_of : List Triangle → Edge → Option ℕ
-number_of ts e = option_and_then (λ k. option_map (λ (t : Triangle). k * 3 + corner_of e t) (slice_get ts k)) (triangle_at ts e)
+abbrev pub half_edge_number : List Triangle → Edge → Option ℕ
+half_edge_number ts e = option_and_then (λ k. option_map (λ (t : Triangle). k * 3 + corner_of e t) (slice_get ts k)) (triangle_at ts e)

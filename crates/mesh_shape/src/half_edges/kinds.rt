@@ -1,8 +1,8 @@
 //! What lines lie on the directed edges of triangles.
 
 ghost use Rattle.std.specs.Prelude.{◌≡◌, IfOk};
-ghost use Rattle.mesh_shape.specs.HalfEdges.Numbers.{edge, corner_of as corner_from, number_of as number_at};
-ghost use Rattle.mesh_shape.specs.HalfEdges.Kinds.{joined as joined_of, kind_at as kind_on, way_by, kind_with, PutsKind, PutsLine, PutsRecord, AreKinds};
+ghost use Rattle.mesh_shape.specs.HalfEdges.Numbers.{edge, corner_of as corner_from, half_edge_number as number_at};
+ghost use Rattle.mesh_shape.specs.HalfEdges.Kinds.{joined as joined_of, kind_at as kind_on, way_by_edge, kind_with, PutsKind, PutsLineKinds, PutsRecordKinds, AreKinds};
 
 use crate::Mesh;
 use sight_names::{Line, Memory, Plan, Side, Triangle};
@@ -77,7 +77,7 @@ fn put_kind(kinds: &mut [EdgeKind], number: Option<u32>, kind: EdgeKind)
 
 /// The same for both edges of the line with this record number.
 fn put_line(mesh: &Mesh, kinds: &mut [EdgeKind], number: u16, line: Line)
-    ensures { PutsLine mesh.now.triangles number line kinds.old kinds.new }
+    ensures { PutsLineKinds mesh.now.triangles number line kinds.old kinds.new }
 {
     let left = number_of(mesh, line.a, line.b);
     put_kind(kinds, left, kind_at(line, number, true));
@@ -87,7 +87,7 @@ fn put_line(mesh: &Mesh, kinds: &mut [EdgeKind], number: u16, line: Line)
 
 /// The same where the record has a line.
 fn put_record(mesh: &Mesh, kinds: &mut [EdgeKind], number: u16, entry: Option<Line>)
-    ensures { PutsRecord mesh.now.triangles number entry kinds.old kinds.new }
+    ensures { PutsRecordKinds mesh.now.triangles number entry kinds.old kinds.new }
 {
     if let Some(line) = entry {
         put_line(mesh, kinds, number, line);
@@ -117,7 +117,7 @@ pub fn kind_of(kinds: &[EdgeKind], number: u32) -> EdgeKind
 
 /// The half-edge along the directed edge, unless the edge is a solid line or no triangle has it.
 pub fn way(mesh: &Mesh, kinds: &[EdgeKind], left: u16, right: u16) -> Option<u32>
-    ensures { result ≡ way_by mesh.now.triangles kinds.now (edge left right) }
+    ensures { result ≡ way_by_edge mesh.now.triangles kinds.now (edge left right) }
 {
     let number = number_of(mesh, left, right)?;
     match kinds.get(number as usize)? {

@@ -6,7 +6,7 @@ ghost use Rattle.sight_names.specs.Mesh.{label_of};
 ghost use Rattle.sight_names.specs.Sequence.{names_it};
 ghost use Rattle.mesh_shape.specs.HalfEdges.Numbers.{edge};
 ghost use Rattle.mesh_shape.specs.HalfEdges.HalfEdges.{entering as entering_at, way_outside, AreHalfEdges};
-ghost use Rattle.mesh_shape.specs.HalfEdges.Corners.{three_of, arrival_of, by_corners, is_closed, IsCorner, Pushes};
+ghost use Rattle.mesh_shape.specs.HalfEdges.Corners.{three_of, arrival_of, by_corners, is_solid_kind, IsCorner, Pushes};
 
 use crate::half_edges::kinds::{EdgeKind, kind_of, kinds_of, number_of, way};
 use crate::{Labels, Mesh};
@@ -113,7 +113,7 @@ fn side_of(kind: EdgeKind) -> Option<Side>
 
 /// Whether this kind is a solid line.
 fn is_solid(kind: EdgeKind) -> bool
-    ensures { result ≡ is_closed kind }
+    ensures { result ≡ is_solid_kind kind }
 {
     match kind {
         EdgeKind::Solid => true,

@@ -12,7 +12,7 @@ use Rattle.std.proofs.lemmas.List.Sorted.{Contains-permutation, IsPermutation-sy
 use Rattle.std.proofs.lemmas.Option.{same_Some, none-some}
 use Rattle.math_base.proofs.Lists.{all_at}
 use Rattle.map_picture.specs.declared.pair.Stop.{Stop}
-use Rattle.pair_answer.specs.EnteredTriangles.Stops.{AreInOrder, StopBefore}
+use Rattle.pair_answer.specs.EnteredTriangles.Stops.{AreStopsInOrder, StopBefore}
 
 abbrev stop_cmp : Stop → Stop → Ordering
 stop_cmp n o = ordering_then (nat_cmp n.from o.from) (nat_cmp n.to o.to)
@@ -49,10 +49,10 @@ ascend_later (x ∷ xs) h zero (suc j) n o lt p q = subst (λ (y : Stop). StopBe
 ascend_later (x ∷ xs) h (suc i) zero n o lt p q = absurd (omega arith)
 ascend_later (x ∷ xs) h (suc i) (suc j) n o lt p q = ascend_later xs h.1 i j n o (omega arith) p q
 
-pub in_order_of : (all sorted left : List Stop) → IsPermutation all sorted → IsSorted stop_cmp sorted → IsFiltered (DiffersFromLast stop_eq) [] sorted left → AreInOrder all left
+pub in_order_of : (all sorted left : List Stop) → IsPermutation all sorted → IsSorted stop_cmp sorted → IsFiltered (DiffersFromLast stop_eq) [] sorted left → AreStopsInOrder all left
 in_order_of all sorted left moved up kept =
     let is : left ≡ dedup stop_eq sorted = dedup_is stop_eq sorted left kept in
-    subst (AreInOrder all) (sym is) (record {
+    subst (AreStopsInOrder all) (sym is) (record {
       ascend = ascend_later (dedup stop_eq sorted) (IsStrictlySortedBy-dedup stop_cmp_total (λ n o. ties_lex n.from o.from n.to o.to) sorted up);
       exactly = λ n. (
         λ c. Contains-permutation sorted all n (IsPermutation-sym all sorted moved) (Contains-from_dedup stop_eq sorted n c),

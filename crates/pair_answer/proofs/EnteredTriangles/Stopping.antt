@@ -14,12 +14,12 @@ use Rattle.mesh_base.proofs.GoodMesh.{found_at}
 use Rattle.mesh_shape.specs.HalfEdges.Numbers.{edge}
 use Rattle.sight_lift.proofs.Behind.{there}
 use Rattle.map_picture.specs.declared.pair.Stop.{Stop}
-use Rattle.pair_answer.specs.EnteredTriangles.Stops.{AreInOrder, ArePut, AreStopsOf, IsOneOf, IsPut, IsStop, LeavesAt, segment}
+use Rattle.pair_answer.specs.EnteredTriangles.Stops.{AreStopsInOrder, ArePut, AreStopsOf, IsOneOf, IsStopPut, IsStop, LeavesAt, segment}
 
 module _ (m : Map) (ts : List Triangle) (Inside : ℕ → Type 0) where
   -- ---- one segment more
 
-  pub one_put : (from to : ℕ) (old new : List Stop) (v : Stop) → new ≡ old ++ v ∷ [] → v ≡ segment from to → LeavesAt m ts Inside (edge to from) → IsPut m ts Inside from to old new
+  pub one_put : (from to : ℕ) (old new : List Stop) (v : Stop) → new ≡ old ++ v ∷ [] → v ≡ segment from to → LeavesAt m ts Inside (edge to from) → IsStopPut m ts Inside from to old new
   one_put from to old new v pushed is leaves s = (λ c. held (Contains-push_cases old v s (subst (λ (ss : List Stop). Contains ss s) pushed c)), λ h. subst (λ (ss : List Stop). Contains ss s) (sym pushed) (back h))
     where
       held : Contains old s ⊎ (v ≡ s) → Contains old s ⊎ ((s ≡ segment from to) × LeavesAt m ts Inside (edge to from))
@@ -32,7 +32,7 @@ module _ (m : Map) (ts : List Triangle) (Inside : ℕ → Type 0) where
 
   -- ---- those of one triangle
 
-  pub three_put : (t : Triangle) (a b c d : List Stop) → IsPut m ts Inside t.p t.q a b → IsPut m ts Inside t.q t.r b c → IsPut m ts Inside t.r t.p c d → ArePut m ts Inside t a d
+  pub three_put : (t : Triangle) (a b c d : List Stop) → IsStopPut m ts Inside t.p t.q a b → IsStopPut m ts Inside t.q t.r b c → IsStopPut m ts Inside t.r t.p c d → ArePut m ts Inside t a d
   three_put t a b c d f g h s = (λ x. first ((h s).0 x), back)
     where
       third : Contains a s ⊎ ((s ≡ segment t.p t.q) × LeavesAt m ts Inside (edge t.q t.p)) → Contains a s ⊎ IsOneOf m ts Inside t s
@@ -119,7 +119,7 @@ module _ (m : Map) (ts : List Triangle) (Inside : ℕ → Type 0) where
         moved : IsOfOne (length ts) s → IsOfOne n s
         moved y = record { k = y.k; t = y.t; low = (let l = y.low in omega (arith, l, le)); inside = y.inside; is = y.is; one = y.one }
 
-  pub stops_in_order : (all left : List Stop) → AreInOrder all left → AreStopsOf m ts Inside all → AreStopsOf m ts Inside left
+  pub stops_in_order : (all left : List Stop) → AreStopsInOrder all left → AreStopsOf m ts Inside all → AreStopsOf m ts Inside left
   stops_in_order all left h are s = (λ c. (are s).0 ((h.exactly s).0 c), λ x. (h.exactly s).1 ((are s).1 x))
 
 -- where a call succeeds, what is known of it gives what is asked

@@ -10,17 +10,17 @@ use Rattle.map_answers.specs.declared.sight_status.status.Flaw.{Flaw}
 use Rattle.map_answers.specs.declared.sight_status.status.Flaw.TheVariants as flaw
 use Rattle.map_answers.specs.declared.sight_status.status.Status.{Status}
 use Rattle.map_answers.specs.declared.sight_status.status.Status.TheVariants as status
-use Rattle.map_answers.specs.SightStatus.Answer.{Answer, Gives, line_answer, only_line}
+use Rattle.map_answers.specs.SightStatus.Answer.{Answer, GivesCalled, line_answer, only_line}
 use Rattle.map_answers.specs.Sound.{IsAuditRefusal, IsFlaw}
 use Rattle.map_answers.proofs.Flaws.{gives_unsound}
 use Rattle.pair_answer.specs.declared.answer.PairAnswer.{PairAnswer}
 use Rattle.pair_answer.specs.declared.answer.PairAnswer.TheVariants as answer
 use Rattle.pair_answer.specs.Answer.{IsAnswerFor}
-use Rattle.pair_answer.specs.WhyAnswers.Why.{IsOfWhyTest, IsSaidIfMade, SaysLine, SaysWhy, WhyCalls, said_of}
+use Rattle.pair_answer.specs.WhyAnswers.Why.{IsOfWhyTest, IsSaidIfMade, SaysLine, SaysWhy, WhyCalls, said_of_answer}
 
 -- ---- a line that was made
 
-pub line_said : (pair : Pair) (given : PairAnswer) (text : List ℕ) (r : Result (String Global) Status) → said_of pair given ≡ Ok (only_line text) → SaysLine text r → IsSaidIfMade pair given (line_answer r)
+pub line_said : (pair : Pair) (given : PairAnswer) (text : List ℕ) (r : Result (String Global) Status) → said_of_answer pair given ≡ Ok (only_line text) → SaysLine text r → IsSaidIfMade pair given (line_answer r)
 line_said pair given text (Ok line) is h = ap (λ (l : List ℕ). Ok (only_line l)) h ∙ sym is
 line_said pair given text (Err s) is h = subst (λ (x : Status). IsSaidIfMade pair given (Err x)) (sym h) tt
 
@@ -30,7 +30,7 @@ line_refusal text (Err s) h = subst IsOfWhyTest (sym h) tt
 
 -- ---- what is said is what is called for
 
-not_bad : (pair : Pair) (given : PairAnswer) (f : Flaw) → Err (status.BadMap f) ≡ said_of pair given → ⊥
+not_bad : (pair : Pair) (given : PairAnswer) (f : Flaw) → Err (status.BadMap f) ≡ said_of_answer pair given → ⊥
 not_bad pair (answer.Sight ray) f e = cc
 not_bad pair answer.Blind f e = cc
 not_bad pair answer.Touch f e = cc
@@ -38,10 +38,10 @@ not_bad pair answer.Listed f e = cc
 not_bad pair (answer.NoSector k) f e = cc
 
 module _ (m : Map) (ask : Ask) (pair : Pair) where
-  says : (given : PairAnswer) → HasClosedFaces m → IsAnswerFor m ask pair given → (r : Result Answer Status) → r ≡ said_of pair given → SaysWhy m ask pair r
+  says : (given : PairAnswer) → HasClosedFaces m → IsAnswerFor m ask pair given → (r : Result Answer Status) → r ≡ said_of_answer pair given → SaysWhy m ask pair r
   says given faces h r is = record { faces = faces; given = given; is_answer = h; is = is }
 
-  pub gives_said : (given : PairAnswer) (r : Result Answer Status) → HasClosedFaces m → IsAnswerFor m ask pair given → IsSaidIfMade pair given r → Gives (¬ HasClosedFaces m) (WhyCalls ask pair m) r
+  pub gives_said : (given : PairAnswer) (r : Result Answer Status) → HasClosedFaces m → IsAnswerFor m ask pair given → IsSaidIfMade pair given r → GivesCalled (¬ HasClosedFaces m) (WhyCalls ask pair m) r
   gives_said given (Ok line) faces h is = record { called = says given faces h (Ok line) is; only = λ sole. absurd (sole faces) }
   gives_said given (Err (status.Memory _)) faces h is = tt
   gives_said given (Err (status.ReadFault k)) faces h is = tt
@@ -59,5 +59,5 @@ module _ (m : Map) (ask : Ask) (pair : Pair) where
   each_flaw flawed (Err s) q = absurd (flawed q.faces)
 
   -- the refusal of the audit
-  pub gives_audit : (s : Status) → IsAuditRefusal m s → Gives (¬ HasClosedFaces m) (WhyCalls ask pair m) (Err s)
+  pub gives_audit : (s : Status) → IsAuditRefusal m s → GivesCalled (¬ HasClosedFaces m) (WhyCalls ask pair m) (Err s)
   gives_audit s h = gives_unsound m (WhyCalls ask pair m) called_flaw each_flaw s h

@@ -7,21 +7,21 @@ use Rattle.sight_names.specs.Mesh.{triangle_at, label_of}
 use Rattle.sight_names.specs.Sequence.{Portal, Sequence, IsSequence, IsStabbable, entry_edge}
 
 -- the last of these portals leads into triangle k
-pub record LeadsInto (ts : List Triangle) (ps : List Portal) (k : ℕ) : Type 0 where
+pub record PortalsLeadInto (ts : List Triangle) (ps : List Portal) (k : ℕ) : Type 0 where
   pub last : Portal
   pub is_last : last_or None ps ≡ Some last
   pub triangle : triangle_at ts (entry_edge last) ≡ Some k
 
 -- a line passes through this sequence of source a into triangle k
-pub record EntersBy (m : Map) (ts : List Triangle) (ls : List (Option ℕ)) (a k : ℕ) (s : Sequence) : Type 0 where
+pub record EntersBySequence (m : Map) (ts : List Triangle) (ls : List (Option ℕ)) (a k : ℕ) (s : Sequence) : Type 0 where
   pub portals : List Portal
   pub is : IsSequence m ts ls a s portals
   pub line : IsStabbable m portals
-  pub into : LeadsInto ts portals k
+  pub into : PortalsLeadInto ts portals k
 
 -- sight out of a enters triangle k
 abbrev pub Enters : Map → List Triangle → List (Option ℕ) → ℕ → ℕ → Type 0
-Enters m ts ls a k = (s : Sequence) × EntersBy m ts ls a k s
+Enters m ts ls a k = (s : Sequence) × EntersBySequence m ts ls a k s
 
 -- sight out of one of the sources does
 abbrev pub IsEntered : Map → List Triangle → List (Option ℕ) → List ℕ → ℕ → Type 0

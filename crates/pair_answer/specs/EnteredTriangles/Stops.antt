@@ -41,8 +41,8 @@ module _ (m : Map) (ts : List Triangle) (Inside : ℕ → Type 0) where
   -- ---- how the code gathers them
 
   -- beside the others the segment is there, where one could leave the set by it
-  abbrev pub IsPut : ℕ → ℕ → List Stop → List Stop → Type 0
-  IsPut from to old new = (s : Stop) → Contains new s ↔ (Contains old s ⊎ ((s ≡ segment from to) × LeavesAt (edge to from)))
+  abbrev pub IsStopPut : ℕ → ℕ → List Stop → List Stop → Type 0
+  IsStopPut from to old new = (s : Stop) → Contains new s ↔ (Contains old s ⊎ ((s ≡ segment from to) × LeavesAt (edge to from)))
 
   -- the same for one of the three edges of the triangle
   abbrev pub IsOneOf : Triangle → Stop → Type 0
@@ -52,6 +52,6 @@ module _ (m : Map) (ts : List Triangle) (Inside : ℕ → Type 0) where
   ArePut t old new = (s : Stop) → Contains new s ↔ (Contains old s ⊎ IsOneOf t s)
 
 -- the same in order, each once
-pub record AreInOrder (all left : List Stop) : Type 0 where
+pub record AreStopsInOrder (all left : List Stop) : Type 0 where
   pub ascend : Ascends StopBefore left
   pub exactly : (s : Stop) → Contains left s ↔ Contains all s

@@ -5,13 +5,13 @@ use Rattle.sight_names.specs.declared.names.Triangle.{Triangle}
 use Rattle.sight_names.specs.Found.{Spent}
 use Rattle.sight_names.specs.Map.{Map}
 use Rattle.pair_answer.specs.EnteredTriangles.Entered.{Enters, IsEntered}
-use Rattle.pair_answer.specs.EnteredTriangles.Marks.{IsMarked}
+use Rattle.pair_answer.specs.EnteredTriangles.Marks.{IsNumberMarked}
 
 module _ (m : Map) (ts : List Triangle) (ls : List (Option ℕ)) (budget : Budget) where
   -- the walk came to its end within the budget and marked what it enters, or there is more than the budget
-  abbrev pub IsWalked : ℕ → List Bool → List Bool → Bool → Type 0
-  IsWalked a old new true = (¬ Spent m ts ls a budget) × ((k : ℕ) → IsMarked new k ↔ (IsMarked old k ⊎ Enters m ts ls a k))
-  IsWalked a old new false = Spent m ts ls a budget
+  abbrev pub IsMarkedByWalk : ℕ → List Bool → List Bool → Bool → Type 0
+  IsMarkedByWalk a old new true = (¬ Spent m ts ls a budget) × ((k : ℕ) → IsNumberMarked new k ↔ (IsNumberMarked old k ⊎ Enters m ts ls a k))
+  IsMarkedByWalk a old new false = Spent m ts ls a budget
 
   -- one of the sources has more than the budget
   abbrev pub IsOneSpent : List ℕ → Type 0
@@ -21,10 +21,10 @@ module _ (m : Map) (ts : List Triangle) (ls : List (Option ℕ)) (budget : Budge
   pub record AllEnded (sources : List ℕ) (marks : List Bool) : Type 0 where
     pub each : length marks ≡ length ts
     pub unspent : (a : ℕ) → Contains sources a → ¬ Spent m ts ls a budget
-    pub marked : (k : ℕ) → IsMarked marks k ↔ IsEntered m ts ls sources k
+    pub marked : (k : ℕ) → IsNumberMarked marks k ↔ IsEntered m ts ls sources k
 
   -- of the first n sources
   pub record EndedBelow (n : ℕ) (sources : List ℕ) (marks : List Bool) : Type 0 where
     pub each : length marks ≡ length ts
     pub unspent : (i a : ℕ) → i < n → slice_get sources i ≡ Some a → ¬ Spent m ts ls a budget
-    pub marked : (k : ℕ) → IsMarked marks k ↔ ((i a : ℕ) × (i < n) × (slice_get sources i ≡ Some a) × Enters m ts ls a k)
+    pub marked : (k : ℕ) → IsNumberMarked marks k ↔ ((i a : ℕ) × (i < n) × (slice_get sources i ≡ Some a) × Enters m ts ls a k)

@@ -8,15 +8,15 @@ use Rattle.map_answers.specs.SightStatus.Answer.{Answer}
 use Rattle.group_job.specs.declared.build.GroupBuilt.{GroupBuilt}
 use Rattle.group_job.specs.Built.{DecidesByGroups}
 use Rattle.pair_answer.specs.declared.answer.PairAnswer.{PairAnswer}
-use Rattle.pair_answer.specs.Laws.{IsSaidOf, TellsSight}
-use Rattle.pair_answer.specs.WhyAnswers.Why.{WhyCalls, said_of}
+use Rattle.pair_answer.specs.Laws.{IsSaidByBuild, AnswerTellsSight}
+use Rattle.pair_answer.specs.WhyAnswers.Why.{WhyCalls, said_of_answer}
 
 -- The line is of an answer that is what a build says of the pair, and that tells whether the two sectors see each other.
 pub record IsSaidAs (m : Map) (pair : Pair) (b : GroupBuilt) (line : Answer) : Type 0 where
   pub given : PairAnswer
-  pub is : Ok line ≡ said_of pair given
-  pub built : IsSaidOf b pair given
-  pub sight : TellsSight m pair given
+  pub is : Ok line ≡ said_of_answer pair given
+  pub built : IsSaidByBuild b pair given
+  pub sight : AnswerTellsSight m pair given
 
 -- What `why` says of a pair is what a build with the same budget says of it.
 abbrev pub WhysAreOfBuilds : Type 0

@@ -2,7 +2,7 @@
 
 ghost use Rattle.std.specs.Prelude.{◌≡◌, ◌<◌, ◌^◌, ◌↔◌, ◌⊎◌, ℕ, Some, Contains, IfOk, IsTrue, length};
 ghost use Rattle.pair_answer.specs.EnteredTriangles.Entered.{IsOfSource};
-ghost use Rattle.pair_answer.specs.EnteredTriangles.Marks.{HasMarksOf, IsListOf, IsMarked, IsMarkedToo, IsNamedBy};
+ghost use Rattle.pair_answer.specs.EnteredTriangles.Marks.{HasMarksOf, IsListOf, IsNumberMarked, IsMarkedToo, IsNamedBy};
 
 use mesh_shape::Labels;
 use sight_names::Memory;
@@ -66,7 +66,7 @@ pub fn mark_sources(
     requires sources { (k : ℕ) → Contains sources.now k → k < sectors }
     requires few { length marks.old < 2 ^ 16 }
     ensures len { length marks.new ≡ length marks.old }
-    ensures marks { IfOk result (λ _. (k : ℕ) → k < length marks.old → IsMarked marks.new k ↔ (IsOfSource labels.now sources.now k ⊎ IsMarked marks.old k)) }
+    ensures marks { IfOk result (λ _. (k : ℕ) → k < length marks.old → IsNumberMarked marks.new k ↔ (IsOfSource labels.now sources.now k ⊎ IsNumberMarked marks.old k)) }
 {
     let named = marks_of(alloc, sectors, sources)?;
     for k in 0..marks.len() {

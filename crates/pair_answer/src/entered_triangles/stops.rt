@@ -6,8 +6,8 @@ ghost use Rattle.sight_names.specs.Mesh.{IsGoodMesh};
 ghost use Rattle.sight_names.specs.Order.{Ascends};
 ghost use Rattle.mesh_shape.specs.HalfEdges.HalfEdges.{AreHalfEdges};
 ghost use Rattle.mesh_shape.specs.HalfEdges.Numbers.{edge};
-ghost use Rattle.pair_answer.specs.EnteredTriangles.Marks.{IsMarked};
-ghost use Rattle.pair_answer.specs.EnteredTriangles.Stops.{AreInOrder, ArePut, AreStopsOf, IsPut, LeavesAt, StopBefore, segment};
+ghost use Rattle.pair_answer.specs.EnteredTriangles.Marks.{IsNumberMarked};
+ghost use Rattle.pair_answer.specs.EnteredTriangles.Stops.{AreStopsInOrder, ArePut, AreStopsOf, IsStopPut, LeavesAt, StopBefore, segment};
 
 use map_picture::Stop;
 use mesh_shape::half_edges::HalfEdges;
@@ -38,7 +38,7 @@ fn leaves_at(
 ) -> bool
     requires edges { AreHalfEdges plan.now mesh.now.triangles labels.now edges.now }
     requires each { length marks.now ≡ length mesh.now.triangles }
-    ensures { IsTrue result ↔ LeavesAt (map_of plan.now) mesh.now.triangles (IsMarked marks.now) (edge left right) }
+    ensures { IsTrue result ↔ LeavesAt (map_of plan.now) mesh.now.triangles (IsNumberMarked marks.now) (edge left right) }
 {
     let Some(number) = edges.entering(mesh, left, right) else {
         return false;
@@ -63,7 +63,7 @@ fn put_stop(
 ) -> Result<(), Memory>
     requires edges { AreHalfEdges plan.now mesh.now.triangles labels.now edges.now }
     requires each { length marks.now ≡ length mesh.now.triangles }
-    ensures { OnOk result (IsPut (map_of plan.now) mesh.now.triangles (IsMarked marks.now) from to stops.old.items stops.new.items) }
+    ensures { OnOk result (IsStopPut (map_of plan.now) mesh.now.triangles (IsNumberMarked marks.now) from to stops.old.items stops.new.items) }
 {
     if !leaves_at(plan, mesh, labels, edges, marks, to, from) {
         return Ok(());
@@ -84,7 +84,7 @@ fn put_stops(
 ) -> Result<(), Memory>
     requires edges { AreHalfEdges plan.now mesh.now.triangles labels.now edges.now }
     requires each { length marks.now ≡ length mesh.now.triangles }
-    ensures { OnOk result (ArePut (map_of plan.now) mesh.now.triangles (IsMarked marks.now) t stops.old.items stops.new.items) }
+    ensures { OnOk result (ArePut (map_of plan.now) mesh.now.triangles (IsNumberMarked marks.now) t stops.old.items stops.new.items) }
 {
     put_stop(stops, plan, mesh, labels, edges, marks, t.p, t.q)?;
     put_stop(stops, plan, mesh, labels, edges, marks, t.q, t.r)?;
@@ -103,7 +103,7 @@ fn all_stops(
     requires good { IsGoodMesh (map_of plan.now) mesh.now.triangles labels.now }
     requires edges { AreHalfEdges plan.now mesh.now.triangles labels.now edges.now }
     requires each { length marks.now ≡ length mesh.now.triangles }
-    ensures { IfOk result (λ v. AreStopsOf (map_of plan.now) mesh.now.triangles (IsMarked marks.now) v.items) }
+    ensures { IfOk result (λ v. AreStopsOf (map_of plan.now) mesh.now.triangles (IsNumberMarked marks.now) v.items) }
 {
     let triangles = mesh.triangles();
     let mut stops = Vec::new(alloc);
@@ -117,7 +117,7 @@ fn all_stops(
 
 /// The stops in order, each once.
 fn in_order(found: Vec<Stop>) -> Vec<Stop>
-    ensures { AreInOrder found.items result.items }
+    ensures { AreStopsInOrder found.items result.items }
 {
     let mut stops = found;
     stops.sort_unstable();
@@ -138,7 +138,7 @@ pub fn stops_of(
     requires edges { AreHalfEdges plan.now mesh.now.triangles labels.now edges.now }
     requires each { length marks.now ≡ length mesh.now.triangles }
     ensures ascend { IfOk result (λ v. Ascends StopBefore v.items) }
-    ensures stops { IfOk result (λ v. AreStopsOf (map_of plan.now) mesh.now.triangles (IsMarked marks.now) v.items) }
+    ensures stops { IfOk result (λ v. AreStopsOf (map_of plan.now) mesh.now.triangles (IsNumberMarked marks.now) v.items) }
 {
     Ok(in_order(all_stops(alloc, plan, mesh, labels, edges, marks)?))
 }

@@ -9,7 +9,7 @@ ghost use Rattle.portal_walk.specs.Terrain.{IsTerrain};
 ghost use Rattle.sight_lift.specs.SequenceLaws.Ways.{root_alone};
 ghost use Rattle.portal_walk.specs.Walk.{pending};
 ghost use Rattle.pair_budget.specs.FoundSectors.{one_less};
-ghost use Rattle.pair_answer.specs.EnteredTriangles.Walks.{AllEnded, IsOneSpent, IsWalked};
+ghost use Rattle.pair_answer.specs.EnteredTriangles.Walks.{AllEnded, IsOneSpent, IsMarkedByWalk};
 
 use crate::entered_triangles::marks::mark;
 use mesh_shape::{Labels, Mesh};
@@ -33,7 +33,7 @@ fn walk_on(mut walker: Walker, budget: Budget, marks: &mut [bool]) -> Result<boo
     requires pending { pending walker ≡ map root_alone (roots (map_of walker.plan) walker.source) }
     requires each { length marks.old ≡ length walker.mesh.triangles }
     ensures each { length marks.new ≡ length marks.old }
-    ensures walked { IfOk result (IsWalked (map_of walker.entry.plan) walker.entry.mesh.triangles walker.entry.labels budget walker.entry.source marks.old marks.new) }
+    ensures walked { IfOk result (IsMarkedByWalk (map_of walker.entry.plan) walker.entry.mesh.triangles walker.entry.labels budget walker.entry.source marks.old marks.new) }
 {
     let mut left = budget;
     loop {
@@ -69,7 +69,7 @@ fn walk_source(
     requires source { source < plan.now.sectors }
     requires each { length marks.old ≡ length mesh.now.triangles }
     ensures each { length marks.new ≡ length marks.old }
-    ensures walked { IfOk result (IsWalked (map_of plan.now) mesh.now.triangles labels.now budget source marks.old marks.new) }
+    ensures walked { IfOk result (IsMarkedByWalk (map_of plan.now) mesh.now.triangles labels.now budget source marks.old marks.new) }
 {
     let walker = Walker::over(alloc, plan, mesh, labels, terrain, source)?;
     walk_on(walker, budget, marks)

@@ -4,7 +4,7 @@ ghost use Rattle.std.specs.Prelude.{◌≡◌, ◌++◌, IfOk, OnOk, codes, stri
 ghost use Rattle.std.specs.Fmt.{signed_decimal};
 ghost use Rattle.sight_names.specs.Texts.{side_text};
 ghost use Rattle.map_answers.specs.SightStatus.Texts.{two};
-ghost use Rattle.pair_answer.specs.WhyAnswers.Lines.{blind_line, listed_line, number_words, ray_words, side_words, sight_line, touch_line};
+ghost use Rattle.pair_answer.specs.WhyAnswers.Lines.{blind_line, listed_line, number_words, ray_as_words, two_sides_words, sight_line_by, touch_line};
 
 use map_answers::sight_status::{push_count, push_number, push_pair_line, push_text};
 use sight_names::{Pair, Ray, Side};
@@ -35,7 +35,7 @@ fn push_side(alloc: Global, line: &mut String, side: Side) -> Result<(), AllocEr
 
 /// Adds the two sides of a ray.
 fn push_sides(alloc: Global, line: &mut String, ray: Ray) -> Result<(), AllocError>
-    ensures { OnOk result (string_bytes line.new ≡ string_bytes line.old ++ side_words ray) }
+    ensures { OnOk result (string_bytes line.new ≡ string_bytes line.old ++ two_sides_words ray) }
 {
     push_side(alloc, line, ray.first)?;
     push_text(line, ",")?;
@@ -54,7 +54,7 @@ fn push_numbers(alloc: Global, line: &mut String, ray: Ray) -> Result<(), AllocE
 
 /// Adds a ray.
 pub fn push_ray(alloc: Global, line: &mut String, ray: Ray) -> Result<(), AllocError>
-    ensures { OnOk result (string_bytes line.new ≡ string_bytes line.old ++ ray_words ray) }
+    ensures { OnOk result (string_bytes line.new ≡ string_bytes line.old ++ ray_as_words ray) }
 {
     push_sides(alloc, line, ray)?;
     push_numbers(alloc, line, ray)
@@ -62,7 +62,7 @@ pub fn push_ray(alloc: Global, line: &mut String, ray: Ray) -> Result<(), AllocE
 
 /// They see each other along this ray.
 pub fn sight_line_of(alloc: Global, pair: Pair, ray: Ray) -> Result<String, AllocError>
-    ensures { IfOk result (λ line. string_bytes line ≡ sight_line pair ray) }
+    ensures { IfOk result (λ line. string_bytes line ≡ sight_line_by pair ray) }
 {
     let mut line = String::from_str(alloc, "sight ")?;
     push_number(alloc, &mut line, u64::from(pair.a))?;

@@ -3,8 +3,8 @@
 ghost use Rattle.std.specs.Prelude.{◌≡◌, IfErr, IfOk, List, ℕ, string_bytes};
 ghost use Rattle.sight_names.specs.Groups.{HasClosedFaces};
 ghost use Rattle.sight_names.specs.Map.{map_of};
-ghost use Rattle.map_answers.specs.SightStatus.Answer.{Gives, line_answer};
-ghost use Rattle.map_answers.specs.Groups.{AreGroupsOver};
+ghost use Rattle.map_answers.specs.SightStatus.Answer.{GivesCalled, line_answer};
+ghost use Rattle.map_answers.specs.Groups.{AreGroupsOverPlan};
 ghost use Rattle.pair_answer.specs.Answer.{IsAnswerFor};
 ghost use Rattle.pair_answer.specs.WhyAnswers.Why.{IsOfWhyTest, IsSaidIfMade, SaysLine, WhyCalls};
 
@@ -47,7 +47,7 @@ fn answer_over(
     ask: Ask,
     pair: Pair,
 ) -> Result<PairAnswer, Memory>
-    requires { AreGroupsOver plan.now groups.now }
+    requires { AreGroupsOverPlan plan.now groups.now }
     ensures { IfOk result (IsAnswerFor (map_of plan.now) ask pair) }
 {
     pair_answer(alloc, plan, &groups.mesh, &groups.grouped, ask, pair)
@@ -55,7 +55,7 @@ fn answer_over(
 
 /// Whether the two sectors of the pair see each other, as far as the budget that is asked for tells, where the map is sound.
 pub fn judge_why(alloc: Global, plan: &Plan, ask: Ask, pair: Pair) -> Result<String, Status>
-    ensures judged { Gives (¬ HasClosedFaces (map_of plan.now)) (WhyCalls ask pair (map_of plan.now)) (line_answer result) }
+    ensures judged { GivesCalled (¬ HasClosedFaces (map_of plan.now)) (WhyCalls ask pair (map_of plan.now)) (line_answer result) }
     ensures refusals { IfErr result IsOfWhyTest }
 {
     let groups = audit_map(alloc, plan)?;

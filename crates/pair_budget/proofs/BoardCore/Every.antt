@@ -15,7 +15,7 @@ use Rattle.sight_names.specs.declared.names.Pair.{Pair}
 use Rattle.math_base.proofs.Lists.{contains_here, contains_none, contains_one, contains_cons, contains_left, contains_right, contains_append}
 use Rattle.pair_budget.specs.BoardCore.Machine.{State, Worker, CanStep, after, change, with_claim, with_mark, at_end, bits_in, word_of, bit_of, pair}
 use Rattle.pair_budget.specs.BoardCore.Machine.{idle, start}
-use Rattle.pair_budget.specs.BoardCore.Runs.{IsRun, end_of, gift, handed, times, numbers_to, HandsOutOnce, MarksTruly, LooksGrow, LooksTruly, IsShown}
+use Rattle.pair_budget.specs.BoardCore.Runs.{IsRun, state_after, gift, handed, times, numbers_to, HandsOutOnce, MarksTruly, LooksGrow, LooksTruly, IsBitShown}
 use Rattle.math_base.proofs.Numbers.{is_told_same, bit_of_right, bit_of_left, tells_same, tells_other}
 
 times-append : (x : ℕ) (cs ds : List (ℕ × ℕ)) → times x (cs ++ ds) ≡ times x cs + times x ds
@@ -35,15 +35,15 @@ one_gift s (Look k i) x = omega arith
 one_gift s (Mark k a b) x = omega arith
 one_gift s (End k) x = omega arith
 
-all_gifts : (s : State) (es : List Event) (x : ℕ) → cond {A = ℕ} (ltb x s.next) 1 0 + times x (handed s es) ≡ cond (ltb x (end_of s es).next) 1 0
+all_gifts : (s : State) (es : List Event) (x : ℕ) → cond {A = ℕ} (ltb x s.next) 1 0 + times x (handed s es) ≡ cond (ltb x (state_after s es).next) 1 0
 all_gifts s [] x = omega arith
 all_gifts s (e ∷ es) x = let a = one_gift s e x in let b = all_gifts (after s e) es x in let c = times-append x (gift s e) (handed (after s e) es) in omega arith
 
 -- what was handed out over a run from the start
-hands_once : (n workers : ℕ) (findable : List Pair) (es : List Event) (x : ℕ) → times x (handed (start n workers findable) es) ≡ cond (ltb x (end_of (start n workers findable) es).next) 1 0
+hands_once : (n workers : ℕ) (findable : List Pair) (es : List Event) (x : ℕ) → times x (handed (start n workers findable) es) ≡ cond (ltb x (state_after (start n workers findable) es).next) 1 0
 hands_once n workers findable es x = let a = all_gifts (start n workers findable) es x in below_none x _ a
   where
-    below_none : (x k : ℕ) → cond {A = ℕ} (ltb x 0) 1 0 + k ≡ cond (ltb x (end_of (start n workers findable) es).next) 1 0 → k ≡ cond (ltb x (end_of (start n workers findable) es).next) 1 0
+    below_none : (x k : ℕ) → cond {A = ℕ} (ltb x 0) 1 0 + k ≡ cond (ltb x (state_after (start n workers findable) es).next) 1 0 → k ≡ cond (ltb x (state_after (start n workers findable) es).next) 1 0
     below_none x k e = let z : cond {A = ℕ} (ltb x 0) 1 0 ≡ 0 = none_below x in omega arith
       where
         none_below : (x : ℕ) → cond {A = ℕ} (ltb x 0) 1 0 ≡ 0
@@ -132,7 +132,7 @@ event_adds s (Mark j a b) k w e = same_claims (with_mark (pair a b)) (λ v. refl
 event_adds s (End j) k w e = same_claims at_end (λ v. refl) j s.workers k w e
 
 -- over a run a worker's claims grow by what it is handed
-run_adds : (s : State) (es : List Event) (k : ℕ) (w u : Worker) → get_elem? s.workers k ≡ some w → get_elem? (end_of s es).workers k ≡ some u → u.claims ≡ w.claims ++ numbers_to k (handed s es)
+run_adds : (s : State) (es : List Event) (k : ℕ) (w u : Worker) → get_elem? s.workers k ≡ some w → get_elem? (state_after s es).workers k ≡ some u → u.claims ≡ w.claims ++ numbers_to k (handed s es)
 run_adds s [] k w u e f = ap (λ (v : Worker). v.claims) (some-injective u w (sym f ∙ e)) ∙ sym (append-nil w.claims)
 run_adds s (x ∷ es) k w u e f =
     let a = event_adds s x k w e in
@@ -207,7 +207,7 @@ steps_sound n f s (Mark k a b) can r = record {
       (k, with_mark (pair a b) active.0, change_here (with_mark (pair a b)) k s.workers active.0 active.1, contains_right (pair a b) active.0.marks (pair a b ∷ []) (contains_here (pair a b) [])),
     )
 
-runs_sound : (n : ℕ) (f : List Pair) (s : State) (es : List Event) → IsRun s es → IsSound n f s → IsSound n f (end_of s es)
+runs_sound : (n : ℕ) (f : List Pair) (s : State) (es : List Event) → IsRun s es → IsSound n f s → IsSound n f (state_after s es)
 runs_sound n f s [] run r = r
 runs_sound n f s (e ∷ es) run r = runs_sound n f (after s e) es run.1 (steps_sound n f s e run.0 r)
 
@@ -225,7 +225,7 @@ starts_sound n m f = record {
 }
 
 -- a worker of the end was there at the start
-was_there : (s : State) (es : List Event) (k : ℕ) (u : Worker) → get_elem? (end_of s es).workers k ≡ some u → (w : Worker) × (get_elem? s.workers k ≡ some w)
+was_there : (s : State) (es : List Event) (k : ℕ) (u : Worker) → get_elem? (state_after s es).workers k ≡ some u → (w : Worker) × (get_elem? s.workers k ≡ some w)
 was_there s [] k u f = (u, f)
 was_there s (e ∷ es) k u f = before e (was_there (after s e) es k u f)
   where
@@ -294,22 +294,22 @@ looks_are_true s i b e = in_list s.marked e
         let r = one_pair (word_of s.sectors q) i (bit_of s.sectors q) (eqb (word_of s.sectors q) i) refl (omega arith) in
         (q, contains_here q ps, r.0, r.1))
 
-marks_only_grow : (s : State) (e : Event) (i : ℕ) (p : Pair) → IsShown s i p → IsShown (after s e) i p
+marks_only_grow : (s : State) (e : Event) (i : ℕ) (p : Pair) → IsBitShown s i p → IsBitShown (after s e) i p
 marks_only_grow s (Claim k) i p h = at (ltb s.next s.sectors)
   where
-    at : (b : Bool) → IsShown (cond b (record s { next = s.next + 1; workers = change (with_claim s.next) k s.workers }) s) i p
+    at : (b : Bool) → IsBitShown (cond b (record s { next = s.next + 1; workers = change (with_claim s.next) k s.workers }) s) i p
     at true = h
     at false = h
 marks_only_grow s (Look k j) i p h = h
 marks_only_grow s (Mark k a b) i p h = shown_append s.sectors i (bit_of s.sectors p) s.marked (pair a b ∷ []) h
 marks_only_grow s (End k) i p h = h
 
-runs_grow : (s : State) (es : List Event) (i : ℕ) (p : Pair) → IsShown s i p → IsShown (end_of s es) i p
+runs_grow : (s : State) (es : List Event) (i : ℕ) (p : Pair) → IsBitShown s i p → IsBitShown (state_after s es) i p
 runs_grow s [] i p h = h
 runs_grow s (e ∷ es) i p h = runs_grow (after s e) es i p (marks_only_grow s e i p h)
 
 pub looks_are_grown : LooksGrow
 looks_are_grown n m f es run = let r = runs_sound n f (start n m f) es run (starts_sound n m f) in (
-  (λ k w p e h. subst (λ (x : ℕ). bit_at (bits_in x (word_of n p) (end_of (start n m f) es).marked) (bit_of x p) ≡ 1) (sym r.sectors) (shown_has n (end_of (start n m f) es).marked p (r.kept k w p e h))),
-  (λ more i p h. runs_grow (end_of (start n m f) es) more i p h),
+  (λ k w p e h. subst (λ (x : ℕ). bit_at (bits_in x (word_of n p) (state_after (start n m f) es).marked) (bit_of x p) ≡ 1) (sym r.sectors) (shown_has n (state_after (start n m f) es).marked p (r.kept k w p e h))),
+  (λ more i p h. runs_grow (state_after (start n m f) es) more i p h),
 )

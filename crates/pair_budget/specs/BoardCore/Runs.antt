@@ -14,9 +14,9 @@ abbrev pub IsRun : State → List Event → Type 0
 IsRun s [] = Unit {0}
 IsRun s (e ∷ es) = CanStep s e × IsRun (after s e) es
 
-abbrev pub end_of : State → List Event → State
-end_of s [] = s
-end_of s (e ∷ es) = end_of (after s e) es
+abbrev pub state_after : State → List Event → State
+state_after s [] = s
+state_after s (e ∷ es) = state_after (after s e) es
 
 -- the worker and the number that an event logs out
 abbrev pub gift : State → Event → List (ℕ × ℕ)
@@ -42,24 +42,24 @@ numbers_to k (c ∷ cs) = cond (eqb c.0 k) (c.1 ∷ numbers_to k cs) (numbers_to
 abbrev pub HandsOutOnce : Type 0
 HandsOutOnce =
     (n workers : ℕ) (findable : List Pair) (es : List Event)
-    → ((x : ℕ) → times x (handed (start n workers findable) es) ≡ cond (ltb x (end_of (start n workers findable) es).next) 1 0)
-    × ((k : ℕ) (w : Worker) → get_elem? (end_of (start n workers findable) es).workers k ≡ some w → w.claims ≡ numbers_to k (handed (start n workers findable) es))
+    → ((x : ℕ) → times x (handed (start n workers findable) es) ≡ cond (ltb x (state_after (start n workers findable) es).next) 1 0)
+    × ((k : ℕ) (w : Worker) → get_elem? (state_after (start n workers findable) es).workers k ≡ some w → w.claims ≡ numbers_to k (handed (start n workers findable) es))
 
 -- each marked pair is findable, and stands in some worker's marks
 abbrev pub MarksTruly : Type 0
 MarksTruly =
-    (n workers : ℕ) (findable : List Pair) (es : List Event) (p : Pair) → IsRun (start n workers findable) es → Contains (end_of (start n workers findable) es).marked p
-    → Contains findable p × ((k : ℕ) × (w : Worker) × (get_elem? (end_of (start n workers findable) es).workers k ≡ some w) × Contains w.marks p)
+    (n workers : ℕ) (findable : List Pair) (es : List Event) (p : Pair) → IsRun (start n workers findable) es → Contains (state_after (start n workers findable) es).marked p
+    → Contains findable p × ((k : ℕ) × (w : Worker) × (get_elem? (state_after (start n workers findable) es).workers k ≡ some w) × Contains w.marks p)
 
-abbrev pub IsShown : State → ℕ → Pair → Type 0
-IsShown s i p = bit_at (bits_in s.sectors i s.marked) (bit_of s.sectors p) ≡ 1
+abbrev pub IsBitShown : State → ℕ → Pair → Type 0
+IsBitShown s i p = bit_at (bits_in s.sectors i s.marked) (bit_of s.sectors p) ≡ 1
 
 -- a look gives every pair of its word that the worker has marked, and every pair that a look gave before
 abbrev pub LooksGrow : Type 0
 LooksGrow =
     (n workers : ℕ) (findable : List Pair) (es : List Event) → IsRun (start n workers findable) es
-    → ((k : ℕ) (w : Worker) (p : Pair) → get_elem? (end_of (start n workers findable) es).workers k ≡ some w → Contains w.marks p → IsShown (end_of (start n workers findable) es) (word_of n p) p)
-    × ((more : List Event) (i : ℕ) (p : Pair) → IsShown (end_of (start n workers findable) es) i p → IsShown (end_of (end_of (start n workers findable) es) more) i p)
+    → ((k : ℕ) (w : Worker) (p : Pair) → get_elem? (state_after (start n workers findable) es).workers k ≡ some w → Contains w.marks p → IsBitShown (state_after (start n workers findable) es) (word_of n p) p)
+    × ((more : List Event) (i : ℕ) (p : Pair) → IsBitShown (state_after (start n workers findable) es) i p → IsBitShown (state_after (state_after (start n workers findable) es) more) i p)
 
 -- each bit that a look gives is that of a marked pair, which stands in the word
 abbrev pub LooksTruly : Type 0

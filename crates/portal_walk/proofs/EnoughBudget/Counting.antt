@@ -22,7 +22,7 @@ use Rattle.sight_lift.proofs.SequenceLaws.All.{stand_in_order}
 use Rattle.sight_lift.proofs.SequenceLaws.Roots.{begins}
 use Rattle.sight_lift.proofs.SequenceLaws.UnderWay.{IsUnderWay, passes_all, passes_blocked, opens, all_opened}
 use Rattle.portal_walk.proofs.Lists.{get_more}
-use Rattle.portal_walk.specs.Walk.{WalkParts, SameWalk, Answers, Blocks, Leads, Ends, pending}
+use Rattle.portal_walk.specs.Walk.{WalkParts, SameWalk, AnswersSequence, BlocksPending, LeadsPending, Ends, pending}
 use Rattle.sight_lift.proofs.EnoughBase.Counts.{few_of_source}
 use Rattle.sight_lift.proofs.EnoughBase.Orders.{ascending_differ}
 use Rattle.sight_lift.proofs.EnoughBase.PlanBound.{few_passable, product as third_product}
@@ -93,10 +93,10 @@ module _ (old new : WalkParts) (count : ℕ) (h : Counted old count) where
   Way ss = IsUnderWay (map_of old.plan) old.mesh.triangles old.labels old.source h.opened ss
 
   -- what was passed over is no sequence
-  way_to : (s : Sequence) (node : Node) (more : List Sequence) (step : Answers old new s node more) → Way (s ∷ step.rest)
+  way_to : (s : Sequence) (node : Node) (more : List Sequence) (step : AnswersSequence old new s node more) → Way (s ∷ step.rest)
   way_to s node more step = passes_all (map_of old.plan) old.mesh.triangles old.labels old.source h.opened step.skipped (s ∷ step.rest) (subst Way step.first h.under_way) step.none
 
-  pub blocked : SameWalk old new → (e : Evidence) → Blocks old new e → Counted new count
+  pub blocked : SameWalk old new → (e : Evidence) → BlocksPending old new e → Counted new count
   blocked same e b =
       moved old new (pending new) count same
       (subst (λ (ss : List Sequence). HasCounted (map_of old.plan) old.mesh.triangles old.labels old.source ss count) (sym b.answers.next) (record {
@@ -105,7 +105,7 @@ module _ (old new : WalkParts) (count : ℕ) (h : Counted old count) where
         count_is = h.count_is;
       }))
 
-  pub opened_one : SameWalk old new → (k : ℕ) (entered : Option Side) → Leads old new k entered → Counted new (count + 1)
+  pub opened_one : SameWalk old new → (k : ℕ) (entered : Option Side) → LeadsPending old new k entered → Counted new (count + 1)
   opened_one same k entered o =
       moved old new (pending new) (count + 1) same
       (subst (λ (ss : List Sequence). HasCounted (map_of old.plan) old.mesh.triangles old.labels old.source ss (count + 1)) (sym o.answers.next) (record {

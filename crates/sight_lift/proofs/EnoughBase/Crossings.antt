@@ -5,7 +5,7 @@ use Rattle.math_base.proofs.Quoting.{quoting, by_ring}
 use Rattle.sight_names.specs.declared.names.Pt.{Pt}
 use Rattle.sight_names.specs.Point.{point_of, value_at, turn_at}
 use Rattle.sight_names.specs.Splitting.{EndPoints, IsParted}
-use Rattle.plane_base.specs.Arrows.{Arrow, dot, minus}
+use Rattle.plane_base.specs.Arrows.{Arrow, dot, arrow_difference}
 use Rattle.plane_base.proofs.Vec.{V, Lin, at}
 use Rattle.mesh_base.proofs.SightLaws.Bridge.{value_at_is, turn_at_is}
 use Rattle.mesh_base.proofs.SightLaws.Places.{norm, Before}
@@ -26,12 +26,12 @@ module _ (a b c : ℤ) where
   value p = value_at a b c (point_of p)
 
   -- what the line says of two points, by the arrow from the one to the other
-  gap : (p q : Pt) → value p -ℤ value q ≡ dot normal (minus (arrow_to p) (arrow_to q))
+  gap : (p q : Pt) → value p -ℤ value q ≡ dot normal (arrow_difference (arrow_to p) (arrow_to q))
   unfolding dot
   gap p q = gap_ring a b c p.x p.y q.x q.y
 
   -- a left end is ahead of each right end along the normal
-  pub ahead : (e f : EndPoints) → IsParted a b c e → IsParted a b c f → pos 0 <ℤ dot normal (minus (arrow_to e.left) (arrow_to f.right))
+  pub ahead : (e f : EndPoints) → IsParted a b c e → IsParted a b c f → pos 0 <ℤ dot normal (arrow_difference (arrow_to e.left) (arrow_to f.right))
   ahead e f h k = let g = gap e.left f.right in let l = h.0 in let r = k.1 in omega (arith, ints)
 
   abbrev pub line : Lin

@@ -7,7 +7,7 @@ use Rattle.sight_names.specs.declared.names.Triangle.{Triangle}
 use Rattle.sight_names.specs.declared.names.Budget.TheVariants.{Of}
 use Rattle.sight_names.specs.Point.{point_of, turn_at}
 use Rattle.sight_names.specs.Map.{Map, MapLine, origin}
-use Rattle.sight_names.specs.Points.{Edge, points_of, lines_of, ends_of, in_order, pt_eq}
+use Rattle.sight_names.specs.Points.{Edge, points_of, lines_of, ends_of_lines, in_order, pt_eq}
 use Rattle.sight_names.specs.Sound.{MeetAtEnds}
 use Rattle.sight_names.specs.Greedy.{IsGreedy, ComesBefore, line_edges, square_length}
 use Rattle.sight_names.specs.Mesh.{IsTriangle, AreTriangles, IsMeshTriangle, IsMeshOf}
@@ -28,7 +28,7 @@ same_passable (Some l ∷ os) = go (is_passable (Some l)) (same_passable os)
     go true e = ap (λ (n : ℕ). Rattle.std.proofs.Common.suc n) e
     go false e = e
 
-same_ends : (os : List (Option MapLine)) → ends_of (filter_map (λ l. l) (map unnamed os)) ≡ ends_of (filter_map (λ l. l) os)
+same_ends : (os : List (Option MapLine)) → ends_of_lines (filter_map (λ l. l) (map unnamed os)) ≡ ends_of_lines (filter_map (λ l. l) os)
 same_ends [] = refl
 same_ends (None ∷ os) = same_ends os
 same_ends (Some l ∷ os) = ap (λ (ps : List Pt). l.first ∷ l.second ∷ ps) (same_ends os)
@@ -47,7 +47,7 @@ module _ (m n : Map) (same : map unnamed m.lines ≡ map unnamed n.lines) where
 
   pub points_same : points_of m ≡ points_of n
   unfolding points_of
-  points_same = ap in_order (sym (same_ends m.lines) ∙ ap (λ (os : List (Option MapLine)). ends_of (filter_map (λ l. l) os)) same ∙ same_ends n.lines)
+  points_same = ap in_order (sym (same_ends m.lines) ∙ ap (λ (os : List (Option MapLine)). ends_of_lines (filter_map (λ l. l) os)) same ∙ same_ends n.lines)
 
   pub edges_same : line_edges m ≡ line_edges n
   edges_same =

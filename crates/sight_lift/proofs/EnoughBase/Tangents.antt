@@ -4,7 +4,7 @@ use Rattle.std.proofs.Common.{◌≡◌, ℤ, pos, ◌+ℤ◌, ◌-ℤ◌, ◌*�
 use Rattle.std.proofs.lemmas.Int.{ints}
 use Rattle.math_base.proofs.Quoting.{quoting, by_ring}
 use Rattle.math_base.proofs.Signs.{mul-pos, pos-of-mul, zero-of-mul, mul-le, le-of-mul, sign_cases, le_or_lt}
-use Rattle.plane_base.specs.Arrows.{Arrow, cross, dot, minus}
+use Rattle.plane_base.specs.Arrows.{Arrow, cross, dot, arrow_difference}
 use Rattle.plane_base.proofs.Turns.{turned, self, long_of_dot}
 use Rattle.plane_base.proofs.Middle.{cross_by, dot_by}
 use Rattle.plane_base.proofs.Search.{In, in_left, in_right, in_cases, least_by}
@@ -60,11 +60,11 @@ longer n d e hd hl z h =
 -- the line from r to l, from a right end to a left end: left ends on it or on its left and on it not before l, right ends
 -- on it or on its right and on it not beyond r
 pub record IsTangent {A : Type 0} (left right : A → Arrow) (xs : List A) (l r : Arrow) : Type 0 where
-  pub long : pos 0 <ℤ dot (minus l r) (minus l r)
-  pub lefts : (x : A) → In x xs → pos 0 ≤ℤ cross (minus l r) (minus (left x) r)
-  pub left_far : (x : A) → In x xs → cross (minus l r) (minus (left x) r) ≡ pos 0 → dot (minus l r) (minus l r) ≤ℤ dot (minus l r) (minus (left x) r)
-  pub rights : (x : A) → In x xs → cross (minus l r) (minus (right x) r) ≤ℤ pos 0
-  pub right_near : (x : A) → In x xs → cross (minus l r) (minus (right x) r) ≡ pos 0 → dot (minus l r) (minus (right x) r) ≤ℤ pos 0
+  pub long : pos 0 <ℤ dot (arrow_difference l r) (arrow_difference l r)
+  pub lefts : (x : A) → In x xs → pos 0 ≤ℤ cross (arrow_difference l r) (arrow_difference (left x) r)
+  pub left_far : (x : A) → In x xs → cross (arrow_difference l r) (arrow_difference (left x) r) ≡ pos 0 → dot (arrow_difference l r) (arrow_difference l r) ≤ℤ dot (arrow_difference l r) (arrow_difference (left x) r)
+  pub rights : (x : A) → In x xs → cross (arrow_difference l r) (arrow_difference (right x) r) ≤ℤ pos 0
+  pub right_near : (x : A) → In x xs → cross (arrow_difference l r) (arrow_difference (right x) r) ≡ pos 0 → dot (arrow_difference l r) (arrow_difference (right x) r) ≤ℤ pos 0
 
 -- a member whose left end and one whose right end give the tangent
 pub record Tangent {A : Type 0} (left right : A → Arrow) (xs : List A) : Type 0 where
@@ -77,15 +77,15 @@ pub record Tangent {A : Type 0} (left right : A → Arrow) (xs : List A) : Type 
 -- no point is a right end of the one and a left end of the other
 pub tangent_parts : {A : Type 0} (left right : A → Arrow) (xs ys : List A) (l r : Arrow) → IsTangent left right xs l r → IsTangent left right ys l r → (x y : A) → In x xs → In y ys → right x ≡ left y → ⊥
 tangent_parts {A} left right xs ys l r s t x y i j e =
-    let d = minus l r in
+    let d = arrow_difference l r in
     let a = s.rights x i in
     let b = t.lefts y j in
-    let same_cross : cross d (minus (right x) r) ≡ cross d (minus (left y) r) = ap (λ (p : Arrow). cross d (minus p r)) e in
-    let same_dot : dot d (minus (right x) r) ≡ dot d (minus (left y) r) = ap (λ (p : Arrow). dot d (minus p r)) e in
-    let z : cross d (minus (right x) r) ≡ pos 0 = level (cross d (minus (right x) r)) (cross d (minus (left y) r)) same_cross a b in
+    let same_cross : cross d (arrow_difference (right x) r) ≡ cross d (arrow_difference (left y) r) = ap (λ (p : Arrow). cross d (arrow_difference p r)) e in
+    let same_dot : dot d (arrow_difference (right x) r) ≡ dot d (arrow_difference (left y) r) = ap (λ (p : Arrow). dot d (arrow_difference p r)) e in
+    let z : cross d (arrow_difference (right x) r) ≡ pos 0 = level (cross d (arrow_difference (right x) r)) (cross d (arrow_difference (left y) r)) same_cross a b in
     let n = s.right_near x i z in
     let f = t.left_far y j (sym same_cross ∙ z) in
-    clash (dot d d) (dot d (minus (right x) r)) (dot d (minus (left y) r)) same_dot n f s.long
+    clash (dot d d) (dot d (arrow_difference (right x) r)) (dot d (arrow_difference (left y) r)) same_dot n f s.long
   where
     level : (u v : ℤ) → u ≡ v → u ≤ℤ pos 0 → pos 0 ≤ℤ v → u ≡ pos 0
     level u v e h k = omega (arith, ints)
@@ -133,7 +133,7 @@ in_pairs q (z ∷ xs) ys i = elim (in_cases q (each_with z ys) (pairs xs ys) i) 
 
 module _ {A : Type 0} (left right : A → Arrow) (n : Arrow) where
   abbrev arrow_between : A × A → Arrow
-  arrow_between q = minus (left q.0) (right q.1)
+  arrow_between q = arrow_difference (left q.0) (right q.1)
 
   abbrev Ahead : A × A → Type 0
   Ahead q = pos 0 <ℤ dot n (arrow_between q)
@@ -141,11 +141,11 @@ module _ {A : Type 0} (left right : A → Arrow) (n : Arrow) where
   ahead_or_not : (q : A × A) → Ahead q ⊎ ¬ Ahead q
   ahead_or_not q = elim (le_or_lt (dot n (arrow_between q)) (pos 0)) as (λ _. Ahead q ⊎ ¬ Ahead q) [ inl h ↦ inr (λ k. omega (arith, ints)) | inr h ↦ inl h ]
 
-  right_turn : (l r y : Arrow) → cross (minus l r) (minus y r) ≡ cross (minus l r) (minus l r) -ℤ cross (minus l r) (minus l y)
-  right_turn l r y = let e = cross_by (minus l r) l y r in omega (arith, ints)
+  right_turn : (l r y : Arrow) → cross (arrow_difference l r) (arrow_difference y r) ≡ cross (arrow_difference l r) (arrow_difference l r) -ℤ cross (arrow_difference l r) (arrow_difference l y)
+  right_turn l r y = let e = cross_by (arrow_difference l r) l y r in omega (arith, ints)
 
-  right_step : (l r y : Arrow) → dot (minus l r) (minus y r) ≡ dot (minus l r) (minus l r) -ℤ dot (minus l r) (minus l y)
-  right_step l r y = let e = dot_by (minus l r) l y r in omega (arith, ints)
+  right_step : (l r y : Arrow) → dot (arrow_difference l r) (arrow_difference y r) ≡ dot (arrow_difference l r) (arrow_difference l r) -ℤ dot (arrow_difference l r) (arrow_difference l y)
+  right_step l r y = let e = dot_by (arrow_difference l r) l y r in omega (arith, ints)
 
   turn_of : (d e : Arrow) → Sooner n d e → pos 0 ≤ℤ cross d e
   turn_of d e (inl h) = omega (arith, ints)
@@ -155,20 +155,20 @@ module _ {A : Type 0} (left right : A → Arrow) (n : Arrow) where
   far_of d e hd hl (inl h) z = absurd (omega (arith, ints))
   far_of d e hd hl (inr h) z = longer n d e hd hl z h.1
 
-  tangent_of : (xs : List A) → ((x y : A) → In x xs → In y xs → pos 0 <ℤ dot n (minus (left x) (right y)))
-      → (q : A × A) → In q.0 xs → In q.1 xs → ((x y : A) → In x xs → In y xs → Sooner n (arrow_between q) (minus (left x) (right y))) → IsTangent left right xs (left q.0) (right q.1)
+  tangent_of : (xs : List A) → ((x y : A) → In x xs → In y xs → pos 0 <ℤ dot n (arrow_difference (left x) (right y)))
+      → (q : A × A) → In q.0 xs → In q.1 xs → ((x y : A) → In x xs → In y xs → Sooner n (arrow_between q) (arrow_difference (left x) (right y))) → IsTangent left right xs (left q.0) (right q.1)
   tangent_of xs apart q i j least =
-      let l = left q.0 in let r = right q.1 in let d = minus l r in
+      let l = left q.0 in let r = right q.1 in let d = arrow_difference l r in
       let ahead : pos 0 <ℤ dot n d = apart q.0 q.1 i j in
       let long : pos 0 <ℤ dot d d = long_of_dot n d (pos_not_zero (dot n d) ahead) in
       let own = self d in
       record {
         long = long;
-        lefts = λ x k. turn_of d (minus (left x) r) (least x q.1 k j);
-        left_far = λ x k z. far_of d (minus (left x) r) ahead (nonneg_of_pos (dot d d) long) (least x q.1 k j) z;
-        rights = λ x k. right_side (cross d d) (cross d (minus l (right x))) (cross d (minus (right x) r)) own (right_turn l r (right x)) (turn_of d (minus l (right x)) (least q.0 x i k));
-        right_near = λ x k z. near (dot d d) (dot d (minus l (right x))) (dot d (minus (right x) r)) (right_step l r (right x))
-            (far_of d (minus l (right x)) ahead (nonneg_of_pos (dot d d) long) (least q.0 x i k) (level (cross d d) (cross d (minus l (right x))) (cross d (minus (right x) r)) own (right_turn l r (right x)) z));
+        lefts = λ x k. turn_of d (arrow_difference (left x) r) (least x q.1 k j);
+        left_far = λ x k z. far_of d (arrow_difference (left x) r) ahead (nonneg_of_pos (dot d d) long) (least x q.1 k j) z;
+        rights = λ x k. right_side (cross d d) (cross d (arrow_difference l (right x))) (cross d (arrow_difference (right x) r)) own (right_turn l r (right x)) (turn_of d (arrow_difference l (right x)) (least q.0 x i k));
+        right_near = λ x k z. near (dot d d) (dot d (arrow_difference l (right x))) (dot d (arrow_difference (right x) r)) (right_step l r (right x))
+            (far_of d (arrow_difference l (right x)) ahead (nonneg_of_pos (dot d d) long) (least q.0 x i k) (level (cross d d) (cross d (arrow_difference l (right x))) (cross d (arrow_difference (right x) r)) own (right_turn l r (right x)) z));
       }
     where
       right_side : (o u v : ℤ) → o ≡ pos 0 → v ≡ o -ℤ u → pos 0 ≤ℤ u → v ≤ℤ pos 0
@@ -181,7 +181,7 @@ module _ {A : Type 0} (left right : A → Arrow) (n : Arrow) where
       near o u v e h = omega (arith, ints)
 
   -- the ends of a list of at least one member that a line with normal n splits have a tangent
-  pub tangent_exists : (x : A) (xs : List A) → ((y z : A) → In y (x ∷ xs) → In z (x ∷ xs) → pos 0 <ℤ dot n (minus (left y) (right z))) → Tangent left right (x ∷ xs)
+  pub tangent_exists : (x : A) (xs : List A) → ((y z : A) → In y (x ∷ xs) → In z (x ∷ xs) → pos 0 <ℤ dot n (arrow_difference (left y) (right z))) → Tangent left right (x ∷ xs)
   tangent_exists x xs apart =
       let ps = pairs (x ∷ xs) (x ∷ xs) in
       elim (least_by Ahead (λ q s. Sooner n (arrow_between q) (arrow_between s)) ahead_or_not (λ q s a b. sooner_total n (arrow_between q) (arrow_between s))

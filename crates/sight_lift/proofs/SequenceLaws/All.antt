@@ -12,7 +12,7 @@ use Rattle.sight_names.specs.Found.{SequenceBefore, IsStabbableSequence, Reaches
 use Rattle.sight_names.proofs.Lists.{same_ascending, contains_tail, contains_of_get, get_of_contains}
 use Rattle.sight_names.proofs.OnePlace.{before_irreflexive, before_asymmetric, one_place}
 use Rattle.mesh_base.proofs.MapFacts.{same_edge}
-use Rattle.sight_lift.specs.SequenceLaws.InOrder.{AreAllOf, FindsAmongFirst, SpentIfMore, IsInOrder}
+use Rattle.sight_lift.specs.SequenceLaws.InOrder.{AreAllOf, FindsAmongFirst, SpentIfMore, AreSequencesInOrder}
 use Rattle.sight_lift.specs.SequenceLaws.Ways.{root_alone, one_way_on}
 use Rattle.sight_lift.proofs.SequenceLaws.UnderWay.{IsUnderWay, passes, opens, all_opened, none_beyond}
 use Rattle.sight_lift.proofs.SequenceLaws.Roots.{begins}
@@ -199,7 +199,7 @@ module _ (m : Map) (ts : List Triangle) (ls : List (Option ℕ)) (a : ℕ) where
           there (x ∷ xs) zero lt = (x, refl)
           there (x ∷ xs) (suc k) lt = there xs k (omega arith)
 
-      tells_all : IsInOrder m ts ls a
+      tells_all : AreSequencesInOrder m ts ls a
       tells_all = record {
         all = all;
         are = are_all;
@@ -210,8 +210,8 @@ module _ (m : Map) (ts : List Triangle) (ls : List (Option ℕ)) (a : ℕ) where
         short = few_ways;
       }
 
-    pub in_order : IsInOrder m ts ls a
+    pub in_order : AreSequencesInOrder m ts ls a
     in_order = let v = visit_all (roots m a) (λ s c. c) [] (begins m ts ls a) in tells_all v.0 v.1
 
-pub stand_in_order : (m : Map) (ts : List Triangle) (ls : List (Option ℕ)) (a : ℕ) → IsGoodMesh m ts ls → IsInOrder m ts ls a
+pub stand_in_order : (m : Map) (ts : List Triangle) (ls : List (Option ℕ)) (a : ℕ) → IsGoodMesh m ts ls → AreSequencesInOrder m ts ls a
 stand_in_order m ts ls a good = in_order m ts ls a good.plain.turn

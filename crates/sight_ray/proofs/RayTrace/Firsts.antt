@@ -24,10 +24,10 @@ use Rattle.mesh_base.proofs.SightLaws.Rays.{split_inside}
 use Rattle.sight_lift.proofs.RayOf.{splits_side}
 use Rattle.sight_lift.proofs.Stroll.{portal_on}
 use Rattle.sight_lift.proofs.Pieces.{cross_d, direction}
-use Rattle.sight_ray.specs.RayTrace.Trace.{IsTrace, IsTraceFault, IsOpen, opposite}
+use Rattle.sight_ray.specs.RayTrace.Trace.{IsTrace, IsTraceFault, IsPortalOpen, opposite}
 use Rattle.sight_names.specs.declared.faults.TraceFault.{TraceFault}
 use Rattle.sight_names.specs.declared.faults.TraceFault.TheVariants.{BadRay, HitsSolid, HitsPoint, Memory}
-use Rattle.sight_ray.specs.RayTrace.First.{IsInTheWay, ComesFirst, IsClear, IsFirstFault, TracedIsClear, WallComesFirst, PointComesFirst}
+use Rattle.sight_ray.specs.RayTrace.First.{IsInTheWay, ComesFirst, IsRayClear, IsFirstTraceFault, TracedIsClear, WallComesFirst, PointComesFirst}
 use Rattle.sight_ray.proofs.RayTrace.Progress.{Progress, progress, form, cross, InTheWay, deep_clear, deep_tip, at_start, at_the_crossing, stop_crossing, forward_is, forward_back, ends_here}
 use Rattle.math_base.proofs.Bools.{not_not}
 use Rattle.sight_names.proofs.Portals.{scale_above}
@@ -85,7 +85,7 @@ module _ (m : Map) (is_map : IsMap m) (ts : List Triangle) (ls : List (Option �
       segment_of_on h.start h.stop x (between f (vec h.start) (vec h.stop) (vec x) (direction m (map_facts m is_map) ts ls good f q h.cut) (scale_above h.start) (scale_above h.stop) (scale_above x) start_zero stop_zero zero
       (not_after_chain f (vec h.start) (cross m is_map (map_facts m is_map) ts ls good r q) (vec x) (scale_above h.start) qd (scale_above x) a past) before)
 
-open_of : (m : Map) (p : Portal) → IsOpen m p → ¬ IsSolidLine m p
+open_of : (m : Map) (p : Portal) → IsPortalOpen m p → ¬ IsSolidLine m p
 open_of m p h (i, l, left, is, solid, e) = h i (record { line = l; is = is; solid = solid; left = left; edge = e })
 
 pub traced_is_clear : TracedIsClear
@@ -216,7 +216,7 @@ point_comes_first m ts ls r k is_map good w =
 
 -- so the answer of a trace over a good mesh tells what comes first
 pub first_of_answer : {T : Type 0} (items : T → List ℕ) (m : Map) (ts : List Triangle) (ls : List (Option ℕ)) (r : Ray) → IsMap m → IsGoodMesh m ts ls → (v : Result T TraceFault)
-    → MatchResult v (λ x. IsTrace m ts r (items x)) (λ f. IsTraceFault m ts r f) → MatchResult v (λ _. IsClear m r) (λ f. IsFirstFault m r f)
+    → MatchResult v (λ x. IsTrace m ts r (items x)) (λ f. IsTraceFault m ts r f) → MatchResult v (λ _. IsRayClear m r) (λ f. IsFirstTraceFault m r f)
 first_of_answer items m ts ls r is_map good (Ok x) h = traced_is_clear m ts ls r (items x) is_map good h
 first_of_answer items m ts ls r is_map good (Err (BadRay f)) h = h
 first_of_answer items m ts ls r is_map good (Err (HitsSolid n)) h = wall_comes_first m ts ls r n is_map good h

@@ -16,7 +16,7 @@ use Rattle.sight_names.specs.Ray.{ray_value}
 use Rattle.sight_names.specs.Sequence.{Portal, Way, Left, Right, apex, entry_edge, way_out}
 use Rattle.sight_ray.specs.RayFault.{IsRayFault}
 use Rattle.sight_ray.proofs.FaultLemmas.{one_fault, one_order}
-use Rattle.sight_ray.specs.RayTrace.Trace.{Crosses, IsBadRay, IsLastPortal, IsStep, IsTrace, IsTraceFault, IsTraceable, IsWall, MeetsPoint, MeetsWall, Walked}
+use Rattle.sight_ray.specs.RayTrace.Trace.{CrossesPortal, IsBadRay, IsLastPortal, IsTraceStep, IsTrace, IsTraceFault, IsTraceable, IsSolidPortal, MeetsPoint, MeetsWall, Walked}
 use Rattle.sight_ray.specs.RayTrace.Trace.Walked.{begun, stepped}
 use Rattle.math_base.proofs.Options.{is_not_there}
 use Rattle.math_base.proofs.Numbers.{below_above_or_same}
@@ -29,25 +29,25 @@ IsTraced m ts r (Err fault) = IsTraceFault m ts r fault
 
 -- ---- one way out
 
-one_way : (m : Map) (r : Ray) (p : Portal) (t : ℕ) (v w : Way) → Crosses m r (way_out p v t) → Crosses m r (way_out p w t) → v ≡ w
+one_way : (m : Map) (r : Ray) (p : Portal) (t : ℕ) (v w : Way) → CrossesPortal m r (way_out p v t) → CrossesPortal m r (way_out p w t) → v ≡ w
 one_way m r p t Left Left c d = refl
 one_way m r p t Left Right c d = absurd (let a = c.right in let b = d.left in omega (arith, ints, a, b))
 one_way m r p t Right Left c d = absurd (let a = c.left in let b = d.right in omega (arith, ints, a, b))
 one_way m r p t Right Right c d = refl
 
 -- a point on the ray gives no way out
-no_way : (m : Map) (r : Ray) (p q : Portal) (t : ℕ) (w : Way) → q ≡ way_out p w t → Crosses m r q → ray_value r (point_of (place m t)) ≡ pos 0 → ⊥
-no_way m r p q t w e c straight = by_way w (subst (Crosses m r) e c)
+no_way : (m : Map) (r : Ray) (p q : Portal) (t : ℕ) (w : Way) → q ≡ way_out p w t → CrossesPortal m r q → ray_value r (point_of (place m t)) ≡ pos 0 → ⊥
+no_way m r p q t w e c straight = by_way w (subst (CrossesPortal m r) e c)
   where
-    by_way : (w : Way) → Crosses m r (way_out p w t) → ⊥
+    by_way : (w : Way) → CrossesPortal m r (way_out p w t) → ⊥
     by_way Left d = let a = d.right in omega (arith, ints, a, straight)
     by_way Right d = let a = d.left in omega (arith, ints, a, straight)
 
-one_step : (m : Map) (ts : List Triangle) (r : Ray) (p q o : Portal) (k j : ℕ) → IsStep m ts r p k q → IsStep m ts r p j o → (k ≡ j) × (q ≡ o)
+one_step : (m : Map) (ts : List Triangle) (r : Ray) (p q o : Portal) (k j : ℕ) → IsTraceStep m ts r p k q → IsTraceStep m ts r p j o → (k ≡ j) × (q ≡ o)
 one_step m ts r p q o k j a b =
     let tip : b.tip ≡ a.tip = same_Some b.tip a.tip (sym b.third ∙ a.third) in
     let out : o ≡ way_out p b.way a.tip = b.out ∙ ap (way_out p b.way) tip in
-    let way : a.way ≡ b.way = one_way m r p a.tip a.way b.way (subst (Crosses m r) a.out a.crossed) (subst (Crosses m r) out b.crossed) in
+    let way : a.way ≡ b.way = one_way m r p a.tip a.way b.way (subst (CrossesPortal m r) a.out a.crossed) (subst (CrossesPortal m r) out b.crossed) in
     (same_Some k j (sym a.behind ∙ b.behind), a.out ∙ ap (λ (w : Way). way_out p w a.tip) way ∙ sym out)
 
 -- ---- one walk
@@ -57,7 +57,7 @@ record GoesOn (m : Map) (ts : List Triangle) (r : Ray) (p : Portal) : Type 0 whe
   triangle : ℕ
   next : Portal
   not_last : ¬ IsLastPortal m r p
-  step : IsStep m ts r p triangle next
+  step : IsTraceStep m ts r p triangle next
 
 one_more : (xs ys : List ℕ) (k : ℕ) → ys ≡ xs ++ (k ∷ []) → length ys ≡ length xs + 1
 one_more xs ys k e = ap (λ (zs : List ℕ). length zs) e ∙ length-append xs (k ∷ [])
@@ -82,7 +82,7 @@ same_walk m ts r p q ks js (stepped o hs j w n s alike) (begun k t f e same) len
     absurd (let a : length js ≡ 1 = ap (λ (xs : List ℕ). length xs) same in let b = one_more hs ks j alike in let c = walked_some m ts r o hs w in omega (arith, a, b, c, len))
 same_walk m ts r p q ks js (stepped o hs k w n s same) (stepped x is j v l t alike) len =
     let before = same_walk m ts r o x hs is w v (let a = one_more hs ks k same in let b = one_more is js j alike in omega (arith, a, b, len)) in
-    let on = one_step m ts r x p q k j (subst (λ (y : Portal). IsStep m ts r y k p) before.0 s) t in
+    let on = one_step m ts r x p q k j (subst (λ (y : Portal). IsTraceStep m ts r y k p) before.0 s) t in
     (on.1, same ∙ ap₂ (λ (xs : List ℕ) (y : ℕ). xs ++ (y ∷ [])) before.1 on.0 ∙ sym alike)
 
 -- a part of a walk, which goes on
@@ -134,7 +134,7 @@ one_trace m ts r ks js h g =
 trace_or_wall : (m : Map) (ts : List Triangle) (r : Ray) (ks : List ℕ) (i : ℕ) → IsTrace m ts r ks → MeetsWall m ts r i → ⊥
 trace_or_wall m ts r ks i h g =
     let e = one_end m ts r g.portal h.portal g.before h.before g.walked (wall_ends m ts r i g) h.walked (trace_ends m ts r ks h) in
-    h.passable i (subst (λ (x : Portal). IsWall m x i) e.0 g.wall)
+    h.passable i (subst (λ (x : Portal). IsSolidPortal m x i) e.0 g.wall)
 
 trace_or_point : (m : Map) (ts : List Triangle) (r : Ray) (ks : List ℕ) (k : ℕ) → IsTrace m ts r ks → MeetsPoint m ts r k → ⊥
 trace_or_point m ts r ks k h g =
@@ -145,15 +145,15 @@ one_wall : (m : Map) (ts : List Triangle) (r : Ray) (i j : ℕ) → MeetsWall m 
 one_wall m ts r i j h g =
     let e = one_end m ts r h.portal g.portal h.before g.before h.walked (wall_ends m ts r i h) g.walked (wall_ends m ts r j g) in
     elim (below_above_or_same i j) as (λ _. i ≡ j) [
-      | inl less ↦ absurd (g.least i less (subst (λ (x : Portal). IsWall m x i) e.0 h.wall))
-      | inr (inl more) ↦ absurd (h.least j more (subst (λ (x : Portal). IsWall m x j) (sym e.0) g.wall))
+      | inl less ↦ absurd (g.least i less (subst (λ (x : Portal). IsSolidPortal m x i) e.0 h.wall))
+      | inr (inl more) ↦ absurd (h.least j more (subst (λ (x : Portal). IsSolidPortal m x j) (sym e.0) g.wall))
       | inr (inr same) ↦ same
     ]
 
 wall_or_point : (m : Map) (ts : List Triangle) (r : Ray) (i k : ℕ) → MeetsWall m ts r i → MeetsPoint m ts r k → ⊥
 wall_or_point m ts r i k h g =
     let e = one_end m ts r h.portal g.portal h.before g.before h.walked (wall_ends m ts r i h) g.walked (point_ends m ts r k g) in
-    g.passable i (subst (λ (x : Portal). IsWall m x i) e.0 h.wall)
+    g.passable i (subst (λ (x : Portal). IsSolidPortal m x i) e.0 h.wall)
 
 one_point : (m : Map) (ts : List Triangle) (r : Ray) (k j : ℕ) → MeetsPoint m ts r k → MeetsPoint m ts r j → k ≡ j
 one_point m ts r k j h g =

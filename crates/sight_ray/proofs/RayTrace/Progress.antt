@@ -28,7 +28,7 @@ use Rattle.sight_lift.proofs.Tails.{root_portal_is}
 use Rattle.sight_lift.proofs.RayOf.{along_is, splits_side}
 use Rattle.sight_lift.proofs.Pieces.{Crossed, deep_line, deep_free, same_is_side, cross_d, direction}
 use Rattle.sight_ray.specs.RayFault.{HasCrossings}
-use Rattle.sight_ray.specs.RayTrace.Trace.{Walked, IsTraceable, IsFirstPortal, IsLastPortal, IsOpen}
+use Rattle.sight_ray.specs.RayTrace.Trace.{Walked, IsTraceable, IsFirstPortal, IsLastPortal, IsPortalOpen}
 use Rattle.sight_ray.specs.RayTrace.Trace.Walked.{begun, stepped}
 use Rattle.math_base.proofs.Options.{one_value}
 use Rattle.math_base.proofs.Bools.{not_not}
@@ -207,7 +207,7 @@ module _ (m : Map) (is_map : IsMap m) (facts : PointFacts m) (ts : List Triangle
       let way = one_way r l side.0 r.last.left splits h.arrives.ends in
       root_portal_is m r.last.line l (not r.last.left) p h.arrives.is (side.1 ∙ ap (side_edge m l) (way ∙ sym (not_not r.last.left)))
 
-  open_of : (p : Portal) → IsOpen m p → ¬ IsSolidLine m p
+  open_of : (p : Portal) → IsPortalOpen m p → ¬ IsSolidLine m p
   open_of p h (i, l, left, is, solid, e) = h i (record { line = l; is = is; solid = solid; left = left; edge = e })
 
   starts : (q : Portal) → IsTraceable m r → IsFirstPortal m r q → Progress q

@@ -20,7 +20,7 @@ use Rattle.plane_base.proofs.Linear.{linear}
 use Rattle.mesh_base.proofs.SightLaws.Crossings.{later_left, later_right, not_after_chain}
 use Rattle.sight_lift.proofs.Behind.{Third, Behind, behind}
 use Rattle.sight_lift.proofs.Pieces.{cross_d, direction}
-use Rattle.sight_ray.specs.RayTrace.Trace.{Walked, HasLabelledTriangle, IsFirstPortal, IsOpen, IsTraceable}
+use Rattle.sight_ray.specs.RayTrace.Trace.{Walked, HasLabelledTriangle, IsFirstPortal, IsPortalOpen, IsTraceable}
 use Rattle.sight_ray.specs.RayTrace.Trace.Walked.{begun, stepped}
 use Rattle.sight_ray.specs.RayTrace.First.{WalkGoesOn}
 use Rattle.sight_ray.proofs.RayTrace.Progress.{progress, form, cross, IsCut}
@@ -132,7 +132,7 @@ module _ (m : Map) (is_map : IsMap m) (facts : PointFacts m) (ts : List Triangle
         );
       }
 
-  open_of : (p : Portal) → IsOpen m p → ¬ IsSolidLine m p
+  open_of : (p : Portal) → IsPortalOpen m p → ¬ IsSolidLine m p
   open_of p h (i, l, left, is, solid, e) = h i (record { line = l; is = is; solid = solid; left = left; edge = e })
 
   trail_of : (q : Portal) (ks : List ℕ) → Walked m ts r q ks → Trail q (length ks)

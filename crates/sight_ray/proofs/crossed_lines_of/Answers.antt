@@ -1,6 +1,6 @@
 use Rattle.std.proofs.Common.{Bool, not, sym, ap, ◌∙◌, subst}
 use Rattle.sight_names.specs.Map.{map_of}
-use Rattle.sight_ray.specs.RayFault.{Splits}
+use Rattle.sight_ray.specs.RayFault.{RaySplitsSide}
 use Rattle.sight_ray.proofs.CrossedLineLemmas.{beq_true, beq_false, crossed_line_splits}
 use Rattle.sight_ray.proofs.FaultLemmas.{leaves_by, last_unsplit, wrong_first, wrong_last}
 use Rattle.sight_ray.proofs.crossed_lines_of.Goals as goal
@@ -24,5 +24,5 @@ returns c =
       c.in-Some.ensures,
       c.in-Some-crossed_line_of.ensures,
       leaves_by m r c.in-Some.start c.in-Some.ensures (beq_false _ _ c.if-start-ray.false),
-      subst (λ (b : Bool). Splits m r r.last b) (beq_true _ _ (sym (not_not _) ∙ ap not c.if-stop-ray.false)) (crossed_line_splits m r r.last c.in-Some-crossed_line_of.stop c.in-Some-crossed_line_of.ensures),
+      subst (λ (b : Bool). RaySplitsSide m r r.last b) (beq_true _ _ (sym (not_not _) ∙ ap not c.if-stop-ray.false)) (crossed_line_splits m r r.last c.in-Some-crossed_line_of.stop c.in-Some-crossed_line_of.ensures),
     )

@@ -2,5 +2,5 @@
 use Rattle.sight_names.specs.Sequence.{Portal}
 use Rattle.sight_ray.specs.declared.ray_trace.CrossedEdge.{CrossedEdge}
 
-abbrev pub portal_of : CrossedEdge → Portal
-portal_of g = record { left = g.left; right = g.right }
+abbrev pub portal_crossed : CrossedEdge → Portal
+portal_crossed g = record { left = g.left; right = g.right }

@@ -13,7 +13,7 @@ use Rattle.sight_names.specs.Ray.{NotBehind, IsSightRay}
 use Rattle.sight_lift.specs.Lift.{InClosedTriangle}
 use Rattle.sight_ray.specs.RayFault.{HasCrossings}
 use Rattle.sight_names.specs.Sequence.{Portal}
-use Rattle.sight_ray.specs.RayTrace.Trace.{HasLabelledTriangle, HasThirdPoint, IsTrace, IsBadRay, IsOpen, MeetsWall, MeetsPoint, Walked}
+use Rattle.sight_ray.specs.RayTrace.Trace.{HasLabelledTriangle, HasThirdPoint, IsTrace, IsBadRay, IsPortalOpen, MeetsWall, MeetsPoint, Walked}
 
 -- z is a point of a solid line, or a point of the map
 abbrev pub IsInTheWay : Map → Point → Type 0
@@ -30,23 +30,23 @@ pub record ComesFirst (m : Map) (r : Ray) (x : Point) : Type 0 where
   pub first : (z : Point) → OnSegment start stop z → IsInTheWay m z → NotBehind r x z
 
 -- the ray is a sight ray, and no point of the map is on its stretch
-abbrev pub IsClear : Map → Ray → Type 0
-IsClear m r = (a b : ℕ) × (h : IsSightRay m r a b) × ((z : Point) → OnSegment h.start h.stop z → IsInTheWay m z → ⊥)
+abbrev pub IsRayClear : Map → Ray → Type 0
+IsRayClear m r = (a b : ℕ) × (h : IsSightRay m r a b) × ((z : Point) → OnSegment h.start h.stop z → IsInTheWay m z → ⊥)
 
 -- a point strictly inside this solid line is the first thing in the ray's way
 abbrev pub IsFirstWall : Map → Ray → ℕ → Type 0
 IsFirstWall m r number = (x : Point) × (l : MapLine) × (line_at m number ≡ Some l) × IsTrue l.solid × InsideSegment (point_of l.first) (point_of l.second) x × ComesFirst m r x
 
 -- what a fault of the walk tells of the ray
-abbrev pub IsFirstFault : Map → Ray → TraceFault → Type 0
-IsFirstFault m r (BadRay fault) = IsBadRay m r fault
-IsFirstFault m r (HitsSolid number) = IsFirstWall m r number
-IsFirstFault m r (HitsPoint k) = ComesFirst m r (point_of (place m k))
-IsFirstFault m r (Memory _) = Unit {0}
+abbrev pub IsFirstTraceFault : Map → Ray → TraceFault → Type 0
+IsFirstTraceFault m r (BadRay fault) = IsBadRay m r fault
+IsFirstTraceFault m r (HitsSolid number) = IsFirstWall m r number
+IsFirstTraceFault m r (HitsPoint k) = ComesFirst m r (point_of (place m k))
+IsFirstTraceFault m r (Memory _) = Unit {0}
 
 -- a ray that is traced to its end is clear
 abbrev pub TracedIsClear : Type 0
-TracedIsClear = (m : Map) (ts : List Triangle) (ls : List (Option ℕ)) (r : Ray) (ks : List ℕ) → IsMap m → IsGoodMesh m ts ls → IsTrace m ts r ks → IsClear m r
+TracedIsClear = (m : Map) (ts : List Triangle) (ls : List (Option ℕ)) (r : Ray) (ks : List ℕ) → IsMap m → IsGoodMesh m ts ls → IsTrace m ts r ks → IsRayClear m r
 
 -- the wall that a traced ray meets is the first thing in its way
 abbrev pub WallComesFirst : Type 0
@@ -60,7 +60,7 @@ PointComesFirst = (m : Map) (ts : List Triangle) (ls : List (Option ℕ)) (r : R
 -- triangle whose third point is one of the map
 abbrev pub WalkGoesOn : Type 0
 WalkGoesOn = (m : Map) (ts : List Triangle) (ls : List (Option ℕ)) (r : Ray) (q : Portal) (ks : List ℕ) → IsMap m → IsGoodMesh m ts ls → Walked m ts r q ks
-    → (length ks ≤ length ts) × (IsOpen m q → HasLabelledTriangle ts ls q × HasThirdPoint m ts q)
+    → (length ks ≤ length ts) × (IsPortalOpen m q → HasLabelledTriangle ts ls q × HasThirdPoint m ts q)
 
 -- each point of the stretch is in one of the triangles that a trace names, or on an edge of it
 abbrev pub TraceCovers : Type 0

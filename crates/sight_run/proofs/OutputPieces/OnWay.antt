@@ -8,13 +8,13 @@ use Rattle.listeners.specs.Told.{texts}
 use Rattle.shelf_io.specs.Shelf.{Files, MayHaveFront, MayHoldFront, append_to, put}
 use Rattle.shelf_io.proofs.FilesLemmas.{append_more, front_is}
 use Rattle.math_base.proofs.Lists.{drop_more as drop-add}
-use Rattle.sight_run.specs.OutputPieces.UnderWay.{IsUnderWay}
+use Rattle.sight_run.specs.OutputPieces.UnderWay.{IsStoring}
 
 -- the file was made empty
-pub begun : (before now : Option Files) (name all : List ℕ) → now ≡ option_map (λ files. put files name []) before → IsUnderWay before now name all all
+pub begun : (before now : Option Files) (name all : List ℕ) → now ≡ option_map (λ files. put files name []) before → IsStoring before now name all all
 begun before now name all e = record { front = []; is = refl; stands = e }
 
-module _ (before now after : Option Files) (name all left piece rest : List ℕ) (h : IsUnderWay before now name all left) (next : left ≡ piece ++ rest) where
+module _ (before now after : Option Files) (name all left piece rest : List ℕ) (h : IsStoring before now name all left) (next : left ≡ piece ++ rest) where
   -- all bytes are the front that stands, a front of the piece, and what is behind it
   whole : (k : ℕ) → all ≡ (h.front ++ take k piece) ++ (drop k piece ++ rest)
   whole k =
@@ -22,7 +22,7 @@ module _ (before now after : Option Files) (name all left piece rest : List ℕ)
       ∙ ap (λ (t : List ℕ). h.front ++ t) (next ∙ ap (λ (p : List ℕ). p ++ rest) (sym (take-append-drop k piece)) ∙ append_assoc (take k piece) (drop k piece) rest)
       ∙ sym (append_assoc h.front (take k piece) (drop k piece ++ rest))
 
-  pub piece_put : after ≡ option_map (λ files. append_to files name piece) now → IsUnderWay before after name all rest
+  pub piece_put : after ≡ option_map (λ files. append_to files name piece) now → IsStoring before after name all rest
   piece_put e = record {
     front = h.front ++ piece;
     is = h.is ∙ ap (λ (t : List ℕ). h.front ++ t) next ∙ sym (append_assoc h.front piece rest);
@@ -41,7 +41,7 @@ module _ (before now after : Option Files) (name all left piece rest : List ℕ)
       )
 
 -- nothing is left
-pub all_put : (before now : Option Files) (name all left : List ℕ) → IsUnderWay before now name all left → left ≡ [] → now ≡ option_map (λ files. put files name all) before
+pub all_put : (before now : Option Files) (name all left : List ℕ) → IsStoring before now name all left → left ≡ [] → now ≡ option_map (λ files. put files name all) before
 all_put before now name all left h none =
     h.stands ∙ ap (λ (f : List ℕ). option_map (λ files. put files name f) before) (sym (h.is ∙ ap (λ (t : List ℕ). h.front ++ t) none ∙ append-nil h.front))
 
@@ -72,8 +72,8 @@ next_text state list i x rest lt e =
     ∙ append_assoc (listener_text (state x)) (texts (map state (drop (i + 1) list))) rest
 
 -- the same, by what is left
-pub left_is : (before now : Option Files) (name all one other : List ℕ) → one ≡ other → IsUnderWay before now name all one → IsUnderWay before now name all other
-left_is before now name all one other e h = subst (λ (t : List ℕ). IsUnderWay before now name all t) e h
+pub left_is : (before now : Option Files) (name all one other : List ℕ) → one ≡ other → IsStoring before now name all one → IsStoring before now name all other
+left_is before now name all one other e h = subst (λ (t : List ℕ). IsStoring before now name all t) e h
 
 -- nothing of a text is behind its end
 pub nothing_left : (text rest : List ℕ) (at : ℕ) → length text ≤ at → drop at text ++ rest ≡ rest

@@ -4,7 +4,7 @@ ghost use Rattle.std.specs.Prelude.{◌≡◌, ◌∷◌, ◌++◌, [], ℕ, Lis
 ghost use Rattle.std.specs.Option.{option_map};
 ghost use Rattle.listeners.specs.Listening.{listener_text};
 ghost use Rattle.listeners.specs.Told.{texts};
-ghost use Rattle.sight_run.specs.OutputPieces.UnderWay.{IsUnderWay};
+ghost use Rattle.sight_run.specs.OutputPieces.UnderWay.{IsStoring};
 ghost use Rattle.shelf_io.specs.Shelf.{BeginsAmong, Files, MayHoldFront, NoneFell, Rose, SameCounts, put};
 
 use listeners::{Listener, words_of};
@@ -13,9 +13,9 @@ use sight_names::Failed;
 
 /// Adds the text of a listener to a file whose next bytes it is.
 fn put_text<S: Shelf>(shelf: &mut S, name: &str, listener: &Box<dyn Listener>) -> Result<(), Failed>
-    ensures put { (before : Option Files) (all rest : List ℕ) → IsUnderWay before (S.state shelf.old).files name.now all (listener_text (listener_state listener.now) ++ rest) →
-        OnOk result (IsUnderWay before (S.state shelf.new).files name.now all rest) }
-    ensures failed { (before : Option Files) (all rest : List ℕ) → IsUnderWay before (S.state shelf.old).files name.now all (listener_text (listener_state listener.now) ++ rest) →
+    ensures put { (before : Option Files) (all rest : List ℕ) → IsStoring before (S.state shelf.old).files name.now all (listener_text (listener_state listener.now) ++ rest) →
+        OnOk result (IsStoring before (S.state shelf.new).files name.now all rest) }
+    ensures failed { (before : Option Files) (all rest : List ℕ) → IsStoring before (S.state shelf.old).files name.now all (listener_text (listener_state listener.now) ++ rest) →
         OnErr result (MayHoldFront before (S.state shelf.new).files name.now all) }
     ensures begun { BeginsAmong (S.state shelf.old).begun (S.state shelf.new).begun (name.now ∷ []) }
     ensures counts { NoneFell (S.state shelf.old) (S.state shelf.new) }
@@ -36,9 +36,9 @@ fn put_text<S: Shelf>(shelf: &mut S, name: &str, listener: &Box<dyn Listener>) -
 
 /// Adds the texts of a list of listeners, one behind the other, to a file whose next bytes they are.
 fn put_texts<S: Shelf>(shelf: &mut S, name: &str, list: &[Box<dyn Listener>]) -> Result<(), Failed>
-    ensures put { (before : Option Files) (all rest : List ℕ) → IsUnderWay before (S.state shelf.old).files name.now all (texts (map (λ b. listener_state b) list.now) ++ rest) →
-        OnOk result (IsUnderWay before (S.state shelf.new).files name.now all rest) }
-    ensures failed { (before : Option Files) (all rest : List ℕ) → IsUnderWay before (S.state shelf.old).files name.now all (texts (map (λ b. listener_state b) list.now) ++ rest) →
+    ensures put { (before : Option Files) (all rest : List ℕ) → IsStoring before (S.state shelf.old).files name.now all (texts (map (λ b. listener_state b) list.now) ++ rest) →
+        OnOk result (IsStoring before (S.state shelf.new).files name.now all rest) }
+    ensures failed { (before : Option Files) (all rest : List ℕ) → IsStoring before (S.state shelf.old).files name.now all (texts (map (λ b. listener_state b) list.now) ++ rest) →
         OnErr result (MayHoldFront before (S.state shelf.new).files name.now all) }
     ensures begun { BeginsAmong (S.state shelf.old).begun (S.state shelf.new).begun (name.now ∷ []) }
     ensures counts { NoneFell (S.state shelf.old) (S.state shelf.new) }

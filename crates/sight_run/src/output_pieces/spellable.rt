@@ -1,7 +1,7 @@
 //! A certificate of any version that has its ranges and orders.
 
 ghost use Rattle.std.specs.Prelude.{◌≡◌};
-ghost use Rattle.certificates.specs.Grammar.{IsInOrder, Spells, sizes_of};
+ghost use Rattle.certificates.specs.Grammar.{IsInOrder, Spells, sizes_of_certificate};
 
 use certificates::{Certificate, Printer};
 use std::marker::Model;
@@ -34,7 +34,7 @@ impl Spellable {
 
     /// Gives its spelling in pieces.
     pub fn printer(&self) -> Printer<'_>
-        ensures { Spells (sizes_of self.now) result self.now }
+        ensures { Spells (sizes_of_certificate self.now) result self.now }
     {
         Printer::new(&self.cert)
     }

@@ -14,7 +14,7 @@ use Rattle.table_compare.proofs.Counting.{count_alike}
 use Rattle.table_compare.proofs.OneKind.{count_so}
 use Rattle.group_job.proofs.Marks.{clear_has_none}
 use Rattle.whole_wad.specs.Rejects.{table_len}
-use Rattle.table_verdicts.specs.MapList.Entry.{is_set, set_bits}
+use Rattle.table_verdicts.specs.MapList.Entry.{is_bit_set, set_bits}
 use Rattle.table_verdicts.specs.Own.{IsAtFront}
 
 pub set_counted : (own clear : TableParts) (k count : ℕ) → clear.bytes ≡ replicate k 0 → IsCountOf own.n (SetsAlone own clear) count → IsCountOf own.n (Rejects own) count
@@ -50,13 +50,13 @@ is_less l len lt = grind (arith, nat_tests)
 
 module _ (n : ℕ) (reject : List ℕ) where
   abbrev counted_where : (b : Bool) → Option ℕ
-  counted_where b = if b then None else Some (pairs_by (is_set n reject) n)
+  counted_where b = if b then None else Some (pairs_by (is_bit_set n reject) n)
 
   module _ (own : TableParts) (front : IsAtFront n reject own) where
     own_bit : (a b : ℕ) → a < n → b < n → table_bit own.bytes (a * own.n + b) ≡ table_bit reject (a * n + b)
     own_bit a b la lb = ap (λ (m : ℕ). table_bit own.bytes (a * m + b)) front.sectors ∙ front.bits (a * n + b) (place_within a b n la lb)
 
-    tells : (a b : ℕ) → a < n → b < n → Rejects own a b ↔ IsTrue (is_set n reject a b)
+    tells : (a b : ℕ) → a < n → b < n → Rejects own a b ↔ IsTrue (is_bit_set n reject a b)
     tells a b la lb = (
       (λ set. tells_same (table_bit reject (a * n + b)) 1 (sym (own_bit a b la lb) ∙ set)),
       (λ told. own_bit a b la lb ∙ is_told_same (table_bit reject (a * n + b)) 1 told),
@@ -65,9 +65,9 @@ module _ (n : ℕ) (reject : List ℕ) where
     pub set_are : (count : ℕ) → IsCountOf own.n (Rejects own) count → Some count ≡ set_bits n reject
     set_are count h =
         let k : IsCountOf n (Rejects own) count = subst (λ (m : ℕ). IsCountOf m (Rejects own) count) front.sectors h in
-        let same : (a b : ℕ) → a < n → b < n → k.test a b ≡ is_set n reject a b =
-        λ a b la lb. both_ways (k.test a b) (is_set n reject a b) (λ told. (tells a b la lb).0 ((k.tells a b la lb).0 told)) (λ told. (k.tells a b la lb).1 ((tells a b la lb).1 told)) in
-        ap (λ (x : ℕ). Some x) (k.passed ∙ pairs_alike k.test (is_set n reject) n same) ∙ sym (ap counted_where (not_less (length reject) (table_len n) front.enough))
+        let same : (a b : ℕ) → a < n → b < n → k.test a b ≡ is_bit_set n reject a b =
+        λ a b la lb. both_ways (k.test a b) (is_bit_set n reject a b) (λ told. (tells a b la lb).0 ((k.tells a b la lb).0 told)) (λ told. (k.tells a b la lb).1 ((tells a b la lb).1 told)) in
+        ap (λ (x : ℕ). Some x) (k.passed ∙ pairs_alike k.test (is_bit_set n reject) n same) ∙ sym (ap counted_where (not_less (length reject) (table_len n) front.enough))
 
   pub none_are : length reject < table_len n → None ≡ set_bits n reject
   none_are lt = sym (ap counted_where (is_less (length reject) (table_len n) lt))

@@ -2,7 +2,7 @@
 use Rattle.std.specs.Prelude.{ℕ, ◌-◌, ◌==◌, List, ◌++◌, replicate, Option, Some, None, codes, if◌then◌else◌}
 use Rattle.std.specs.Fmt.{decimal}
 use Rattle.std.specs.List.{flat_map}
-use Rattle.wad_dir.specs.AllMaps.Names.{word_of}
+use Rattle.wad_dir.specs.AllMaps.Names.{name_before_nul}
 use Rattle.map_answers.specs.SightStatus.Texts.{reason_words}
 use Rattle.row_spelling.specs.declared.Spelling.{Spelling}
 use Rattle.row_spelling.specs.declared.Spelling.TheVariants as spelling
@@ -40,12 +40,12 @@ set_words None = codes ""
 abbrev pub reject_words : MapSizes → List ℕ
 reject_words s = codes " reject " ++ decimal s.found ++ codes " of " ++ decimal s.expected ++ set_words s.set
 
-abbrev pub said_words : Said → List ℕ
-said_words (said.Read sizes) = format_words sizes.format ++ size_words sizes ++ reject_words sizes ++ codes "\n"
-said_words (said.Refused refusal) = codes " refused " ++ reason_words refusal
+abbrev pub entry_said_words : Said → List ℕ
+entry_said_words (said.Read sizes) = format_words sizes.format ++ size_words sizes ++ reject_words sizes ++ codes "\n"
+entry_said_words (said.Refused refusal) = codes " refused " ++ reason_words refusal
 
 abbrev pub entry_line : MapEntry → List ℕ
-entry_line e = word_of e.name ++ said_words e.said
+entry_line e = name_before_nul e.name ++ entry_said_words e.said
 
 -- ---- the same as a JSON object, whose members are named by the words of the line
 
@@ -68,12 +68,12 @@ set_json None = codes ""
 abbrev pub reject_json : MapSizes → List ℕ
 reject_json s = codes ",\"reject\":" ++ decimal s.found ++ codes ",\"of\":" ++ decimal s.expected ++ set_json s.set
 
-abbrev pub said_json : Said → List ℕ
-said_json (said.Read sizes) = format_json sizes.format ++ size_json sizes ++ reject_json sizes
-said_json (said.Refused refusal) = refused_json refusal
+abbrev pub entry_said_json : Said → List ℕ
+entry_said_json (said.Read sizes) = format_json sizes.format ++ size_json sizes ++ reject_json sizes
+entry_said_json (said.Refused refusal) = refused_json refusal
 
 abbrev pub entry_json : MapEntry → List ℕ
-entry_json e = codes "{\"map\":" ++ quoted (word_of e.name) ++ said_json e.said ++ codes "}\n"
+entry_json e = codes "{\"map\":" ++ quoted (name_before_nul e.name) ++ entry_said_json e.said ++ codes "}\n"
 
 -- ---- the list
 

@@ -13,23 +13,23 @@ is_whole (said.Read sizes) = is_some sizes.set
 is_whole other = false
 
 -- .. has fewer
-abbrev pub is_short : Said → Bool
-is_short (said.Read sizes) = is_none sizes.set
-is_short other = false
+abbrev pub is_entry_short : Said → Bool
+is_entry_short (said.Read sizes) = is_none sizes.set
+is_entry_short other = false
 
-abbrev pub is_refused : Said → Bool
-is_refused (said.Refused refusal) = true
-is_refused other = false
+abbrev pub is_entry_refused : Said → Bool
+is_entry_refused (said.Refused refusal) = true
+is_entry_refused other = false
 
-abbrev pub count_of : (Said → Bool) → List MapEntry → ℕ
-count_of test entries = count_by (λ (e : MapEntry). test e.said) entries
+abbrev pub count_of_entries : (Said → Bool) → List MapEntry → ℕ
+count_of_entries test entries = count_by (λ (e : MapEntry). test e.said) entries
 
 abbrev pub list_tally_of : List MapEntry → ListTally
 list_tally_of entries = record {
   maps = length entries;
-  whole = count_of is_whole entries;
-  short = count_of is_short entries;
-  refused = count_of is_refused entries;
+  whole = count_of_entries is_whole entries;
+  short = count_of_entries is_entry_short entries;
+  refused = count_of_entries is_entry_refused entries;
 }
 
 abbrev pub list_line : ListTally → List ℕ

@@ -2,7 +2,7 @@
 
 ghost use Rattle.std.specs.Prelude.{◌≡◌, ◌++◌, IfOk, OnOk, IsTrue, string_bytes};
 ghost use Rattle.wad_dir.specs.AllMaps.Maps.{is_map_name};
-ghost use Rattle.table_verdicts.specs.MapList.Lines.{entry_json, entry_row, format_json, reject_json, said_json, set_json, size_json};
+ghost use Rattle.table_verdicts.specs.MapList.Lines.{entry_json, entry_row, format_json, reject_json, entry_said_json, set_json, size_json};
 
 use crate::json::push_refused;
 use crate::map_list::entry::{ListedFormat, MapEntry, MapSizes, Said};
@@ -59,7 +59,7 @@ fn push_reject(alloc: Global, line: &mut String, sizes: &MapSizes) -> Result<(),
 
 /// Adds what is listed of a map.
 fn push_said(alloc: Global, line: &mut String, said: &Said) -> Result<(), AllocError>
-    ensures { OnOk result (string_bytes line.new ≡ string_bytes line.old ++ said_json said.now) }
+    ensures { OnOk result (string_bytes line.new ≡ string_bytes line.old ++ entry_said_json said.now) }
 {
     match said {
         Said::Read(sizes) => {

@@ -2,7 +2,7 @@
 
 ghost use Rattle.std.specs.Prelude.{◌≡◌, ◌++◌, IfOk, OnOk, IsTrue, string_bytes};
 ghost use Rattle.wad_dir.specs.AllMaps.Maps.{is_map_name};
-ghost use Rattle.table_verdicts.specs.MapList.Lines.{entry_line, format_words, reject_words, said_words, set_words, size_words};
+ghost use Rattle.table_verdicts.specs.MapList.Lines.{entry_line, format_words, reject_words, entry_said_words, set_words, size_words};
 
 use crate::map_list::entry::{ListedFormat, MapEntry, MapSizes, Said};
 use crate::map_list::unit::push_unit;
@@ -55,7 +55,7 @@ fn push_reject(alloc: Global, line: &mut String, sizes: &MapSizes) -> Result<(),
 
 /// Adds what is listed of a map.
 fn push_said(alloc: Global, line: &mut String, said: &Said) -> Result<(), AllocError>
-    ensures { OnOk result (string_bytes line.new ≡ string_bytes line.old ++ said_words said.now) }
+    ensures { OnOk result (string_bytes line.new ≡ string_bytes line.old ++ entry_said_words said.now) }
 {
     match said {
         Said::Read(sizes) => {

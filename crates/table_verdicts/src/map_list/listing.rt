@@ -2,9 +2,9 @@
 
 ghost use Rattle.std.specs.Prelude.{◌≡◌, ◌+◌, ◌≤◌, length, All, IfOk, IsTrue, string_bytes};
 ghost use Rattle.wad_dir.specs.Map.{entry_names};
-ghost use Rattle.wad_dir.specs.Wad.{file_of, names_of};
+ghost use Rattle.wad_dir.specs.Wad.{file_of, names_of_lumps};
 ghost use Rattle.wad_dir.specs.AllMaps.All.{HasInOrder};
-ghost use Rattle.wad_dir.specs.AllMaps.Maps.{is_map_name, maps_of};
+ghost use Rattle.wad_dir.specs.AllMaps.Maps.{is_map_name, maps_in_names};
 ghost use Rattle.table_verdicts.specs.MapList.Entry.{entries_of};
 ghost use Rattle.table_verdicts.specs.MapList.Lines.{lines_of_maps};
 ghost use Rattle.table_verdicts.specs.MapList.Listing.{ShowsList};
@@ -53,7 +53,7 @@ fn list_each<N: Notice>(
     notice: &N,
 ) -> Result<Listed, Memory>
     requires inside { All (λ entry. entry.at + entry.size ≤ length bytes.now) wad.now.entries }
-    requires names { names_of (file_of bytes.now wad.now) ≡ entry_names wad.now.entries }
+    requires names { names_of_lumps (file_of bytes.now wad.now) ≡ entry_names wad.now.entries }
     requires named { All (λ name. IsTrue (is_map_name name)) names.now }
     ensures entries { IfOk result (λ listed. listed.entries.items ≡ entries_of (file_of bytes.now wad.now) large names.now) }
     ensures report { IfOk result (λ listed. string_bytes listed.report ≡ lines_of_maps spelling (entries_of (file_of bytes.now wad.now) large names.now)) }
@@ -83,9 +83,9 @@ pub fn list_maps<N: Notice>(
     notice: &N,
 ) -> Result<MapList, Memory>
     requires inside { All (λ entry. entry.at + entry.size ≤ length bytes.now) wad.now.entries }
-    requires names { names_of (file_of bytes.now wad.now) ≡ entry_names wad.now.entries }
+    requires names { names_of_lumps (file_of bytes.now wad.now) ≡ entry_names wad.now.entries }
     // They are some of the WAD's maps, in the order of their entries.
-    requires among { HasInOrder (maps_of (entry_names wad.now.entries)) names.now }
+    requires among { HasInOrder (maps_in_names (entry_names wad.now.entries)) names.now }
     ensures { IfOk result (ShowsList (file_of bytes.now wad.now) large names.now spelling) }
 {
     tell_unread(alloc, wad, notice)?;

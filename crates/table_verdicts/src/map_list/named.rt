@@ -2,7 +2,7 @@
 
 ghost use Rattle.std.specs.Prelude.{◌≡◌, ◌+◌, ◌≤◌, length, All, IfOk, IsTrue};
 ghost use Rattle.wad_dir.specs.Map.{entry_names};
-ghost use Rattle.wad_dir.specs.Wad.{file_of, names_of};
+ghost use Rattle.wad_dir.specs.Wad.{file_of, names_of_lumps};
 ghost use Rattle.wad_dir.specs.AllMaps.Maps.{is_map_name};
 ghost use Rattle.table_verdicts.specs.MapList.Entry.{entry_named, format_named, listed_format};
 
@@ -33,7 +33,7 @@ fn listed_format(alloc: Global, format: MapFormat, linedefs: &[u8]) -> Result<Li
 /// The format of the map of that name, Doom's where there is none.
 fn format_named(alloc: Global, bytes: &[u8], wad: &Wad, name: &str) -> Result<ListedFormat, Memory>
     requires inside { All (λ entry. entry.at + entry.size ≤ length bytes.now) wad.now.entries }
-    requires names { names_of (file_of bytes.now wad.now) ≡ entry_names wad.now.entries }
+    requires names { names_of_lumps (file_of bytes.now wad.now) ≡ entry_names wad.now.entries }
     ensures { IfOk result (λ f. f ≡ format_named (file_of bytes.now wad.now) name.now) }
 {
     match find_map(wad, name) {
@@ -51,7 +51,7 @@ pub fn entry_of(
     name: &[u8; 8],
 ) -> Result<MapEntry, Memory>
     requires inside { All (λ entry. entry.at + entry.size ≤ length bytes.now) wad.now.entries }
-    requires names { names_of (file_of bytes.now wad.now) ≡ entry_names wad.now.entries }
+    requires names { names_of_lumps (file_of bytes.now wad.now) ≡ entry_names wad.now.entries }
     requires named { IsTrue (is_map_name name.now) }
     ensures is { IfOk result (λ e. e ≡ entry_named (file_of bytes.now wad.now) large name.now) }
     ensures named { IfOk result (λ e. IsTrue (is_map_name e.name)) }

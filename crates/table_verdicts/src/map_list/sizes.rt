@@ -6,7 +6,7 @@ ghost use Rattle.sight_names.specs.Points.{points_of};
 ghost use Rattle.table_compare.specs.Counts.{IsCountOf};
 ghost use Rattle.reject_bits.specs.Parts.{Rejects};
 ghost use Rattle.whole_wad.specs.Rejects.{table_len};
-ghost use Rattle.table_verdicts.specs.MapList.Entry.{set_bits, sizes_of};
+ghost use Rattle.table_verdicts.specs.MapList.Entry.{set_bits, listed_sizes_of};
 
 use crate::map_list::entry::{ListedFormat, MapSizes};
 use crate::own::{OwnTable, own_table};
@@ -55,7 +55,7 @@ pub fn sizes_of(
     format: ListedFormat,
     reject: &[u8],
 ) -> Result<MapSizes, Memory>
-    ensures { IfOk result (λ sizes. sizes ≡ sizes_of (map_of plan.now) format reject.now) }
+    ensures { IfOk result (λ sizes. sizes ≡ listed_sizes_of (map_of plan.now) format reject.now) }
 {
     let set = set_bits(alloc, plan.sectors, reject)?;
     Ok(MapSizes {

@@ -1,7 +1,7 @@
 //! How many maps there are of each kind, and the line that tells it.
 
 ghost use Rattle.std.specs.Prelude.{◌≡◌, IfOk, string_bytes, cond};
-ghost use Rattle.table_verdicts.specs.MapList.Totals.{is_refused, is_short, is_whole, list_line, list_tally_of};
+ghost use Rattle.table_verdicts.specs.MapList.Totals.{is_entry_refused, is_entry_short, is_whole, list_line, list_tally_of};
 
 use crate::map_list::entry::{MapEntry, Said};
 use crate::tally::one_if;
@@ -30,7 +30,7 @@ fn is_whole(said: &Said) -> bool
 }
 
 fn is_short(said: &Said) -> bool
-    ensures { result ≡ is_short said.now }
+    ensures { result ≡ is_entry_short said.now }
 {
     match said {
         Said::Read(sizes) => sizes.set.is_none(),
@@ -39,7 +39,7 @@ fn is_short(said: &Said) -> bool
 }
 
 fn is_refused(said: &Said) -> bool
-    ensures { result ≡ is_refused said.now }
+    ensures { result ≡ is_entry_refused said.now }
 {
     match said {
         Said::Refused(_) => true,

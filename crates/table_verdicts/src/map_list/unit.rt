@@ -1,7 +1,7 @@
 //! The unit in which the points of a map are told.
 
 ghost use Rattle.std.specs.Prelude.{◌≡◌, ◌++◌, IfOk, OnOk, replicate, string_bytes};
-ghost use Rattle.table_verdicts.specs.MapList.Entry.{places_in};
+ghost use Rattle.table_verdicts.specs.MapList.Entry.{places_of_unit};
 ghost use Rattle.table_verdicts.specs.MapList.Lines.{unit_of};
 
 use map_answers::sight_status::push_text;
@@ -11,7 +11,7 @@ use udmf_map::text_places;
 
 /// The decimal places of the unit in which the points of a map are told whose LINEDEFS, or whose text, has these bytes.
 pub fn places_of(alloc: Global, format: MapFormat, linedefs: &[u8]) -> Result<u8, Memory>
-    ensures { IfOk result (λ places. places ≡ places_in format linedefs.now) }
+    ensures { IfOk result (λ places. places ≡ places_of_unit format linedefs.now) }
 {
     match format {
         MapFormat::Doom | MapFormat::Hexen => Ok(0),

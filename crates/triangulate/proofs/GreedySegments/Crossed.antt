@@ -21,7 +21,7 @@ use Rattle.triangulate.specs.declared.incident_segments.segments.Segment.{Segmen
 use Rattle.triangulate.specs.IncidentSegments.Incident.{has_end, other_end, AreSegments}
 use Rattle.triangulate.specs.IncidentSegments.Kept.{edge_of, edges_of, MeetsEach, IsCrossedBy}
 use Rattle.triangulate.specs.IncidentSegments.Neighbours.{IsNeighbour}
-use Rattle.triangulate.specs.GreedySegments.Crossed.{SegmentsMeet, IsCrossedAt, MayReach}
+use Rattle.triangulate.specs.GreedySegments.Crossed.{SegmentsMeet, IsSegmentCrossedAt, MayReach}
 use Rattle.triangulate.proofs.IncidentSegments.KeptEdges.{any_segment}
 use Rattle.triangulate.proofs.IncidentSegments.Chains.{end_cases, other_from, end_to, end_from}
 
@@ -101,7 +101,7 @@ bar_of_neighbour m segs u v e neighbour bars = elim (neighbour_edge segs u v nei
   | inr c ↦ (edge v u, c, λ h. bars (turned m e u v h))
 ]
 
-pub bar_at : (m : Map) (segs : List Segment) (u : ℕ) (e : Edge) → IsCrossedAt m segs u e → IsCrossedBy m (edges_of segs) e
+pub bar_at : (m : Map) (segs : List Segment) (u : ℕ) (e : Edge) → IsSegmentCrossedAt m segs u e → IsCrossedBy m (edges_of segs) e
 bar_at m segs u e (v, neighbour, bars) = bar_of_neighbour m segs u v e neighbour bars
 
 -- ---- a pair is clear where the segments at the points that can reach it meet it at ends alone

@@ -14,7 +14,7 @@ use Rattle.geom_exact.specs.Formulas.{turn_of}
 use Rattle.geom_exact.proofs.InsideLemmas.{inside_of_turns}
 use Rattle.mesh_shape.proofs.Separate.{inside_numbers}
 use Rattle.triangulate.specs.declared.greedy_segments.saturated.Heights.{Heights}
-use Rattle.triangulate.specs.GreedySegments.Saturated.{turn_between, IsBetween, IsEmptyTriangle, HasNoneLeft}
+use Rattle.triangulate.specs.GreedySegments.Saturated.{turn_between, IsBetweenHeights, IsEmptyTriangle, HasNoneLeft}
 use Rattle.math_base.proofs.Numbers.{below_or_last}
 use Rattle.math_base.proofs.Small.{pos_not_zero}
 use Rattle.geom_exact.proofs.RelationLemmas.{turn_at_first as turn_ends, turn_at_second as turn_second}
@@ -75,7 +75,7 @@ over : (x y z : ℤ) → x ≤ℤ y → y <ℤ z → x <ℤ z
 over x y z h k = omega (arith, ints)
 
 -- a point inside has a y that the corners span
-pub inside_within : (a b c p : Pt) (h : Heights) → IsBetween a h → IsBetween b h → IsBetween c h → (pos 0 <ℤ turn_of a b p) × (pos 0 <ℤ turn_of b c p) × (pos 0 <ℤ turn_of c a p) → IsBetween p h
+pub inside_within : (a b c p : Pt) (h : Heights) → IsBetweenHeights a h → IsBetweenHeights b h → IsBetweenHeights c h → (pos 0 <ℤ turn_of a b p) × (pos 0 <ℤ turn_of b c p) × (pos 0 <ℤ turn_of c a p) → IsBetweenHeights p h
 inside_within a b c p h ha hb hc inside = (
   elim (le_or_lt h.low p.y) [ inl le ↦ le | inr lt ↦ absurd (below_outside a b c p (under p.y h.low a.y lt ha.0) (under p.y h.low b.y lt hb.0) (under p.y h.low c.y lt hc.0) inside) ],
   elim (le_or_lt p.y h.high) [ inl le ↦ le | inr lt ↦ absurd (above_outside a b c p (over a.y h.high p.y ha.1 lt) (over b.y h.high p.y hb.1 lt) (over c.y h.high p.y hc.1 lt) inside) ],

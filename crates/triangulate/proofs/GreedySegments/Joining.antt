@@ -11,10 +11,10 @@ use Rattle.sight_names.specs.Points.{Edge}
 use Rattle.sight_names.specs.Greedy.{edge_length}
 use Rattle.sight_names.proofs.Lists.{contains_of_get, get_of_contains}
 use Rattle.math_base.proofs.Lists.{contains_none}
-use Rattle.task_crew.specs.Done.{AreDone}
+use Rattle.task_crew.specs.Done.{AreTasksDone}
 use Rattle.triangulate.specs.declared.greedy_segments.rounds.PointPair.{PointPair}
 use Rattle.triangulate.specs.declared.greedy_segments.parts.TheConstants.{PART}
-use Rattle.triangulate.specs.GreedySegments.Pairs.{AreNumbers, ArePairsBetween, ArePairsFrom, HasPair, IsSquareBetween, pair_edge}
+use Rattle.triangulate.specs.GreedySegments.Pairs.{AreNumbers, ArePairsBetween, ArePairsFrom, HasEdgeOfPair, IsSquareBetween, pair_edge}
 use Rattle.triangulate.specs.GreedySegments.Rounds.{AddsIfUncrossed, AreUncrossed, AreUncrossedFrom, AreUnsaturated, LeavesUncrossed}
 use Rattle.triangulate.specs.IncidentSegments.Kept.{IsCrossedBy}
 use Rattle.triangulate.proofs.GreedySegments.Crossed.{edge}
@@ -89,7 +89,7 @@ module _ {X : Type 0} (items : X → List ℕ) (m : Map) (kept : List Edge) (poi
   abbrev pub IsPart : List ℕ → ℕ → X → Type 0
   IsPart numbers i x = AreUnsaturated m kept points (take PART (drop (i * PART) numbers)) (items x)
 
-  pub points_joined : (n : ℕ) (numbers : List ℕ) (parts : List X) → length numbers ≤ n * PART → AreNumbers points numbers → AreDone (IsPart numbers) n parts → AreUnsaturated m kept points numbers (flat_map items parts)
+  pub points_joined : (n : ℕ) (numbers : List ℕ) (parts : List X) → length numbers ≤ n * PART → AreNumbers points numbers → AreTasksDone (IsPart numbers) n parts → AreUnsaturated m kept points numbers (flat_map items parts)
   points_joined zero [] [] few are done = none_left m kept points
   points_joined zero (k ∷ numbers) parts few are done = absurd (omega (arith, few))
   points_joined zero [] (x ∷ parts) few are done = absurd (let e = done.len in omega (arith, e))
@@ -134,13 +134,13 @@ module _ {X : Type 0} (items : X → List PointPair) (m : Map) (kept : List Edge
   abbrev pub IsPairPart : ℕ → X → Type 0
   IsPairPart i x = AreUncrossedFrom m kept numbers low high (i * PART) (i * PART + PART) (items x)
 
-  pub pairs_joined : (n : ℕ) (parts : List X) → length numbers ≤ n * PART → AreDone IsPairPart n parts → AreUncrossed m kept numbers low high (flat_map items parts)
+  pub pairs_joined : (n : ℕ) (parts : List X) → length numbers ≤ n * PART → AreTasksDone IsPairPart n parts → AreUncrossed m kept numbers low high (flat_map items parts)
   pairs_joined n parts few done = record {
     each = λ p c. let r = in_one items parts p c in (done.each r.0 r.1 r.2).each p r.3;
     all = λ e from to order between. of_part e (from.0 / PART) from.0 (get_of_contains numbers e.from from.0 from.1 from.2) (omega arith) (omega arith) (let lt = from.1 in omega (arith, lt)) to order between;
   }
     where
-      of_part : (e : Edge) (i k : ℕ) → slice_get numbers k ≡ Some e.from → i * PART ≤ k → k < i * PART + PART → k < length numbers → Contains numbers e.to → e.from < e.to → IsSquareBetween low high (edge_length m e) → HasPair (flat_map items parts) e ⊎ IsCrossedBy m kept e
+      of_part : (e : Edge) (i k : ℕ) → slice_get numbers k ≡ Some e.from → i * PART ≤ k → k < i * PART + PART → k < length numbers → Contains numbers e.to → e.from < e.to → IsSquareBetween low high (edge_length m e) → HasEdgeOfPair (flat_map items parts) e ⊎ IsCrossedBy m kept e
       of_part e i k at least most within to order between =
           let there : i < length parts = (let l = done.len in omega (arith, l, few, least, within)) in
           let here = found parts i there in
@@ -161,7 +161,7 @@ uncrossed_from m kept numbers low high begin end last pairs left within b l = re
   all = λ k from to least lt at c order between. of_pair k from to (b.all k from to least (within k lt (slice_get_within numbers k from at)) at c order between);
 }
   where
-    of_pair : (k from to : ℕ) → HasPair pairs (edge from to) → HasPair left (edge from to) ⊎ IsCrossedBy m kept (edge from to)
+    of_pair : (k from to : ℕ) → HasEdgeOfPair pairs (edge from to) → HasEdgeOfPair left (edge from to) ⊎ IsCrossedBy m kept (edge from to)
     of_pair k from to h = elim (l.others h.0 h.1) [ inl c ↦ inl (h.0, c, h.2) | inr bar ↦ inr (subst (IsCrossedBy m kept) h.2 bar) ]
 
 -- ---- lists and pairs one by one

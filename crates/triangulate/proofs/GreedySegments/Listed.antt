@@ -12,7 +12,7 @@ use Rattle.sight_names.specs.Greedy.{edge_length, square_length}
 use Rattle.sight_names.proofs.Lists.{contains_of_get, get_of_contains}
 use Rattle.mesh_shape.proofs.Separate.{place_before}
 use Rattle.triangulate.specs.declared.greedy_segments.rounds.PointPair.{PointPair}
-use Rattle.triangulate.specs.GreedySegments.Pairs.{AreNumbers, HasPair, IsPairBetween, IsSquareBetween, AddsIfBetween, AddsPairs, ArePairsBetween, ArePairsFrom}
+use Rattle.triangulate.specs.GreedySegments.Pairs.{AreNumbers, HasEdgeOfPair, IsPairBetween, IsSquareBetween, AddsIfBetween, AddsPairs, ArePairsBetween, ArePairsFrom}
 use Rattle.triangulate.proofs.GreedySegments.Crossed.{edge}
 use Rattle.triangulate.proofs.GreedySegments.Measured.{pair_of}
 use Rattle.math_base.proofs.Numbers.{below_same_or_above, below_or_last, below_or_not}
@@ -22,12 +22,12 @@ use Rattle.math_base.proofs.Lists.{contains_none}
 pub record AddsUpTo (m : Map) (from : ℕ) (later : List ℕ) (low high i : ℕ) (old new : List PointPair) : Type 0 where
   pub kept : (p : PointPair) → Contains old p → Contains new p
   pub each : (p : PointPair) → Contains new p → Contains old p ⊎ IsPairBetween m low high p
-  pub all : (k to : ℕ) → k < i → slice_get later k ≡ Some to → IsSquareBetween low high (edge_length m (edge from to)) → HasPair new (edge from to)
+  pub all : (k to : ℕ) → k < i → slice_get later k ≡ Some to → IsSquareBetween low high (edge_length m (edge from to)) → HasEdgeOfPair new (edge from to)
 
 pub adds_none : (m : Map) (from : ℕ) (later : List ℕ) (low high : ℕ) (old : List PointPair) → AddsUpTo m from later low high 0 old old
 adds_none m from later low high old = record { kept = λ p c. c; each = λ p c. inl c; all = λ k to lt at b. absurd (omega arith) }
 
-still_there : (e : Edge) (old new : List PointPair) → ((p : PointPair) → Contains old p → Contains new p) → HasPair old e → HasPair new e
+still_there : (e : Edge) (old new : List PointPair) → ((p : PointPair) → Contains old p → Contains new p) → HasEdgeOfPair old e → HasEdgeOfPair new e
 still_there e old new kept h = (h.0, kept h.0 h.1, h.2)
 
 pub adds_next : (p : PlanParts) → IsPlan p → (from to i low high square : ℕ) (later : List ℕ) (old mid new : List PointPair) → from < to → AreNumbers (length p.points) later → slice_get later i ≡ Some to
@@ -165,7 +165,7 @@ between_next m points i from low high begin numbers mid new are at adds before =
   all = λ k x to least lt at_k c order b. elim (below_or_last k i lt) [
     | inl less ↦ still_there (edge x to) mid new adds.kept (before.all k x to least less at_k c order b)
     | inr same ↦ let e = same_Some from x (sym at ∙ ap (slice_get numbers) (sym same) ∙ at_k) in
-        subst (λ (y : ℕ). HasPair new (edge y to)) e (adds.all to (later to c (subst (λ (y : ℕ). y < to) (sym e) order)) (subst (λ (y : ℕ). IsSquareBetween low high (edge_length m (edge y to))) (sym e) b))
+        subst (λ (y : ℕ). HasEdgeOfPair new (edge y to)) e (adds.all to (later to c (subst (λ (y : ℕ). y < to) (sym e) order)) (subst (λ (y : ℕ). IsSquareBetween low high (edge_length m (edge y to))) (sym e) b))
   ];
 }
   where

@@ -15,7 +15,7 @@ use Rattle.triangulate.specs.declared.greedy_segments.extents.PairExtent.{PairEx
 use Rattle.triangulate.specs.IncidentSegments.Incident.{has_end, other_end}
 use Rattle.triangulate.specs.IncidentSegments.Neighbours.{IsNeighbour}
 use Rattle.triangulate.specs.GreedySegments.Crossed.{SegmentsMeet, MayReach}
-use Rattle.triangulate.specs.GreedySegments.Extents.{IsInRange, IsInExtent, IsWithinExtent, HasNoEnds, AreExtents, AreBlocks, Widens, IsPairExtent, CannotMeet}
+use Rattle.triangulate.specs.GreedySegments.Extents.{IsHeightInExtent, IsInExtent, IsWithinExtent, HasNoEnds, AreExtents, AreBlocks, Widens, IsPairExtent, CannotMeet}
 use Rattle.triangulate.proofs.IncidentSegments.KeptEdges.{any_segment}
 use Rattle.triangulate.proofs.IncidentSegments.Chains.{end_cases, other_from, old_at, new_at}
 use Rattle.triangulate.proofs.GreedySegments.Crossed.{edge, other_not_from}
@@ -38,7 +38,7 @@ pub record StarsUpTo (m : Map) (k : ℕ) (extents : List Extent) : Type 0 where
 
 -- ---- one more segment
 
-in_wider : (y : ℤ) (s t : Extent) → IsWithinExtent s t → IsInRange y s → IsInRange y t
+in_wider : (y : ℤ) (s t : Extent) → IsWithinExtent s t → IsHeightInExtent y s → IsHeightInExtent y t
 in_wider y s t h r = (let a = h.low in let b = r.0 in omega (arith, ints), let a = h.high in let b = r.1 in omega (arith, ints))
 
 end_in_wider : (v : ℕ) (y : ℤ) (s t : Extent) → IsWithinExtent s t → IsInExtent v y s → IsInExtent v y t

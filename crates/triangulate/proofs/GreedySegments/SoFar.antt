@@ -14,8 +14,8 @@ use Rattle.sight_names.proofs.Lists.{contains_of_get, get_of_contains}
 use Rattle.sight_names.proofs.Meets.{flip_first}
 use Rattle.triangulate.specs.declared.greedy_segments.rounds.PointPair.{PointPair}
 use Rattle.triangulate.specs.IncidentSegments.Kept.{MeetsEach, IsCrossedBy}
-use Rattle.triangulate.specs.GreedySegments.Pairs.{pair_edge, HasPair, IsPairBetween, AreInOrder, IsNotAfter}
-use Rattle.triangulate.specs.GreedySegments.Rounds.{AreUncrossed, IsEarlier, IsGreedySoFar, IsShorter, IsSaturated, KeepsIfClear, KeepsClear}
+use Rattle.triangulate.specs.GreedySegments.Pairs.{pair_edge, HasEdgeOfPair, IsPairBetween, ArePointPairsInOrder, IsPointPairNotAfter}
+use Rattle.triangulate.specs.GreedySegments.Rounds.{AreUncrossed, IsLineOrBefore, IsGreedySoFar, IsShorter, IsSaturated, KeepsIfClear, KeepsClear}
 use Rattle.triangulate.proofs.GreedySegments.Crossed.{same_edge}
 use Rattle.math_base.proofs.Numbers.{below_or_last}
 use Rattle.math_base.proofs.Lists.{pushed_at, contains_none}
@@ -48,7 +48,7 @@ module _ (m : Map) (T : Edge → Type 0) (kept : List Edge) (e : Edge) (s : IsGr
   More f = T f ⊎ (f ≡ e)
 
   -- what came earlier still does
-  kept_earlier : (f g : Edge) → IsEarlier m s.rest f g → IsEarlier m (s.rest ++ e ∷ []) f g
+  kept_earlier : (f g : Edge) → IsLineOrBefore m s.rest f g → IsLineOrBefore m (s.rest ++ e ∷ []) f g
   kept_earlier f g h = elim h [ inl l ↦ inl l | inr r ↦ inr (Contains-append_left s.rest (e ∷ []) g r.0, r.1) ]
 
   pub keep_one : ¬ EdgesMeetAtEnds m e e → MeetsEach m kept e → IsGreedySoFar m More (kept ++ e ∷ [])
@@ -93,11 +93,11 @@ module _ (m : Map) (T : Edge → Type 0) (kept : List Edge) (e : Edge) (s : IsGr
     free = s.free;
     settled = λ f p t. elim t [
       | inl h ↦ s.settled f p h
-      | inr h ↦ subst (λ (x : Edge). Contains s.rest x ⊎ ((g : Edge) × IsEarlier m s.rest x g × ¬ EdgesMeetAtEnds m x g)) (sym h) settled_new
+      | inr h ↦ subst (λ (x : Edge). Contains s.rest x ⊎ ((g : Edge) × IsLineOrBefore m s.rest x g × ¬ EdgesMeetAtEnds m x g)) (sym h) settled_new
     ];
   }
     where
-      settled_new : Contains s.rest e ⊎ ((g : Edge) × IsEarlier m s.rest e g × ¬ EdgesMeetAtEnds m e g)
+      settled_new : Contains s.rest e ⊎ ((g : Edge) × IsLineOrBefore m s.rest e g × ¬ EdgesMeetAtEnds m e g)
       settled_new = elim (Contains-append_cases (line_edges m) s.rest bar.0 (subst (λ (es : List Edge). Contains es bar.0) s.lines_first bar.1)) [
         | inl l ↦ inr (bar.0, inl l, bar.2)
         | inr r ↦ elim (last bar.0 (s.tried bar.0 r)) [ inl h ↦ inr (bar.0, inr (r, h), bar.2) | inr h ↦ inl (subst (Contains s.rest) h r) ]
@@ -124,7 +124,7 @@ widen m T U kept s up down = record {
   settled = λ e p u. elim (down e p u) [ inl t ↦ s.settled e p t | inr h ↦ inr (h.0, early e h, h.3) ];
 }
   where
-    early : (e : Edge) (h : HasEarlyBar m kept e) → IsEarlier m s.rest e h.0
+    early : (e : Edge) (h : HasEarlyBar m kept e) → IsLineOrBefore m s.rest e h.0
     early e h = elim (Contains-append_cases (line_edges m) s.rest h.0 (subst (λ (es : List Edge). Contains es h.0) s.lines_first h.1)) [
       | inl l ↦ inl l
       | inr r ↦ elim h.2 [ inl l ↦ inl l | inr b ↦ inr (r, b) ]
@@ -168,7 +168,7 @@ AreAllBetween m low pairs = (p : PointPair) → Contains pairs p → (high : ℕ
 abbrev pub TriedBefore : Map → ℕ → List PointPair → ℕ → Edge → Type 0
 TriedBefore m low pairs i e = IsShorter m low e ⊎ HasPairBefore pairs i e
 
-comes_last : (m : Map) (low : ℕ) (pairs : List PointPair) (i : ℕ) (p : PointPair) → slice_get pairs i ≡ Some p → AreInOrder pairs → AreAllBetween m low pairs → ComesLast m (TriedBefore m low pairs i) (pair_edge p)
+comes_last : (m : Map) (low : ℕ) (pairs : List PointPair) (i : ℕ) (p : PointPair) → slice_get pairs i ≡ Some p → ArePointPairsInOrder pairs → AreAllBetween m low pairs → ComesLast m (TriedBefore m low pairs i) (pair_edge p)
 comes_last m low pairs i p at ordered all f (inl h) =
     let b = (all p (contains_of_get pairs p i at)).1 in
     let s = b.square in let t = b.between.0 in
@@ -179,7 +179,7 @@ comes_last m low pairs i p at ordered all f (inr (k, lt, q, at_k, same)) =
     subst (λ (x : Edge). ComesBefore m x (pair_edge p) ⊎ (x ≡ pair_edge p)) same
     (lex (edge_length m (pair_edge q)) (edge_length m (pair_edge p)) q p (sym c.square) (sym b.square) (ordered k i q p lt at_k at))
   where
-    lex : (a b : ℕ) (q p : PointPair) → a ≡ q.square → b ≡ p.square → IsNotAfter q p → ((a < b) ⊎ ((a ≡ b) × ((q.from < p.from) ⊎ ((q.from ≡ p.from) × (q.to < p.to))))) ⊎ (pair_edge q ≡ pair_edge p)
+    lex : (a b : ℕ) (q p : PointPair) → a ≡ q.square → b ≡ p.square → IsPointPairNotAfter q p → ((a < b) ⊎ ((a ≡ b) × ((q.from < p.from) ⊎ ((q.from ≡ p.from) × (q.to < p.to))))) ⊎ (pair_edge q ≡ pair_edge p)
     lex a b q p e f (inl h) = inl (inl (omega arith))
     lex a b q p e f (inr (s, inl h)) = inl (inr (e ∙ s ∙ sym f, inl h))
     lex a b q p e f (inr (s, inr (h, k))) = elim (cases q.to p.to k) [ inl lt ↦ inl (inr (e ∙ s ∙ sym f, inr (h, lt))) | inr t ↦ inr (same_edge h t) ]
@@ -193,7 +193,7 @@ TriesBefore m pairs i old new = (low : ℕ) → IsGreedySoFar m (IsShorter m low
 pub try_none : (m : Map) (pairs : List PointPair) (old : List Edge) → TriesBefore m pairs 0 old old
 try_none m pairs old low s all = widen m (IsShorter m low) (TriedBefore m low pairs 0) old s (λ e h. inl h) (λ e p t. inl (elim t [ inl h ↦ h | inr h ↦ absurd (let lt = h.1 in omega arith) ]))
 
-pub try_next : (m : Map) (pairs : List PointPair) (i : ℕ) (p : PointPair) (old mid new : List Edge) → slice_get pairs i ≡ Some p → AreInOrder pairs → IsPointPair m (pair_edge p) → ¬ EdgesMeetAtEnds m (pair_edge p) (pair_edge p)
+pub try_next : (m : Map) (pairs : List PointPair) (i : ℕ) (p : PointPair) (old mid new : List Edge) → slice_get pairs i ≡ Some p → ArePointPairsInOrder pairs → IsPointPair m (pair_edge p) → ¬ EdgesMeetAtEnds m (pair_edge p) (pair_edge p)
     → KeepsIfClear m (pair_edge p) mid new → TriesBefore m pairs i old mid → TriesBefore m pairs (i + 1) old new
 try_next m pairs i p old mid new at ordered pair bar keeps before low s all =
     widen m (λ f. TriedBefore m low pairs i f ⊎ (f ≡ pair_edge p)) (TriedBefore m low pairs (i + 1)) new
@@ -214,7 +214,7 @@ grown m e mid new (inr h) f c = subst (λ (es : List Edge). Contains es f) (sym 
 pub try_all : (m : Map) (pairs : List PointPair) (i : ℕ) (old new : List Edge) → length pairs ≤ i → ((f : Edge) → Contains old f → Contains new f) → TriesBefore m pairs i old new → KeepsClear m pairs old new
 try_all m pairs i old new le kept before = record {
   kept = kept;
-  tried = λ low s all. widen m (TriedBefore m low pairs i) (λ e. IsShorter m low e ⊎ HasPair pairs e) new (before low s all)
+  tried = λ low s all. widen m (TriedBefore m low pairs i) (λ e. IsShorter m low e ⊎ HasEdgeOfPair pairs e) new (before low s all)
       (λ e t. elim t [ inl h ↦ inl h | inr h ↦ inr (h.2, contains_of_get pairs h.2 h.0 h.3, h.4) ])
       (λ e q t. inl (elim t [ inl h ↦ inl h | inr h ↦ inr (h.1.0, (let lt = h.1.1 in omega arith), h.0, get_of_contains pairs h.0 h.1.0 h.1.1 h.1.2, h.2) ]));
 }
@@ -225,7 +225,7 @@ pub round_done : (m : Map) (low high : ℕ) (unsaturated : List ℕ) (pairs sort
     → AreUncrossed m old unsaturated low high pairs → IsPermutation pairs sorted → KeepsClear m sorted old new → ((k : ℕ) → k < length (points_of m) → Contains unsaturated k ⊎ IsSaturated m old k)
     → IsGreedySoFar m (IsShorter m high) new
 round_done m low high unsaturated pairs sorted old new le s between same keeps closed =
-    widen m (λ e. IsShorter m low e ⊎ HasPair sorted e) (IsShorter m high) new
+    widen m (λ e. IsShorter m low e ⊎ HasEdgeOfPair sorted e) (IsShorter m high) new
     (keeps.tried low s (λ p c. (high, between.each p (Contains-permutation sorted pairs p (IsPermutation-sym pairs sorted same) c))))
     (λ e t. elim t [
       | inl h ↦ omega arith
@@ -244,7 +244,7 @@ round_done m low high unsaturated pairs sorted old new le s between same keeps c
         place_of (inl l) = inl l
         place_of (inr r) = let t : edge_length m f < low * low = s.tried f r in inr (inl (omega arith))
 
-    down : (e : Edge) → IsPointPair m e → IsShorter m high e → (IsShorter m low e ⊎ HasPair sorted e) ⊎ HasEarlyBar m new e
+    down : (e : Edge) → IsPointPair m e → IsShorter m high e → (IsShorter m low e ⊎ HasEdgeOfPair sorted e) ⊎ HasEarlyBar m new e
     down e p shorter = elim (cases_lt (edge_length m e) (low * low)) [
       | inl lt ↦ inl (inl lt)
       | inr long ↦ elim (closed e.from (let a = p.0 in let b = p.1 in omega arith)) [

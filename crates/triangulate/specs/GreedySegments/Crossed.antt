@@ -11,8 +11,8 @@ abbrev pub SegmentsMeet : Map → List Segment → ℕ → Edge → Type 0
 SegmentsMeet m segs u e = (v : ℕ) → IsNeighbour segs u v → EdgesMeetAtEnds m e (record { from = u; to = v })
 
 -- a segment at u shares more with e
-abbrev pub IsCrossedAt : Map → List Segment → ℕ → Edge → Type 0
-IsCrossedAt m segs u e = (v : ℕ) × IsNeighbour segs u v × ¬ EdgesMeetAtEnds m e (record { from = u; to = v })
+abbrev pub IsSegmentCrossedAt : Map → List Segment → ℕ → Edge → Type 0
+IsSegmentCrossedAt m segs u e = (v : ℕ) × IsNeighbour segs u v × ¬ EdgesMeetAtEnds m e (record { from = u; to = v })
 
 -- a segment at w may reach the points from i to j: w is none before i, or one of its neighbours is behind j
 abbrev pub MayReach : List Segment → ℕ → ℕ → ℕ → Type 0

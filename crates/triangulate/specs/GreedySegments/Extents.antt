@@ -8,12 +8,12 @@ use Rattle.triangulate.specs.declared.greedy_segments.extents.PairExtent.{PairEx
 use Rattle.triangulate.specs.IncidentSegments.Neighbours.{IsNeighbour}
 
 -- the y lies in the extent's range
-abbrev pub IsInRange : ℤ → Extent → Type 0
-IsInRange y s = (s.low ≤ℤ y) × (y ≤ℤ s.high)
+abbrev pub IsHeightInExtent : ℤ → Extent → Type 0
+IsHeightInExtent y s = (s.low ≤ℤ y) × (y ≤ℤ s.high)
 
 -- the extent covers the end v at this y
 abbrev pub IsInExtent : ℕ → ℤ → Extent → Type 0
-IsInExtent v y s = IsInRange y s × (v ≤ s.last_neighbour)
+IsInExtent v y s = IsHeightInExtent y s × (v ≤ s.last_neighbour)
 
 -- what is in the one extent is in the other
 pub record IsWithinExtent (s t : Extent) : Type 0 where
@@ -23,13 +23,13 @@ pub record IsWithinExtent (s t : Extent) : Type 0 where
 
 -- the extent of a point with no segment
 pub record HasNoEnds (m : Map) (k : ℕ) (s : Extent) : Type 0 where
-  pub hub : IsInRange (place m k).y s
+  pub hub : IsHeightInExtent (place m k).y s
   pub last_neighbour : s.last_neighbour ≡ 0
 
 -- the extent of each point covers the point and all its neighbours
 pub record AreExtents (m : Map) (segs : List Segment) (extents : List Extent) : Type 0 where
   pub each_point : length extents ≡ length (points_of m)
-  pub hub : (u : ℕ) (d : Extent) → u < length extents → IsInRange (place m u).y (slice_index_or extents u d)
+  pub hub : (u : ℕ) (d : Extent) → u < length extents → IsHeightInExtent (place m u).y (slice_index_or extents u d)
   pub ends : (u v : ℕ) (d : Extent) → u < length extents → IsNeighbour segs u v → IsInExtent v (place m v).y (slice_index_or extents u d)
 
 -- no extent of 32 points has an end with a greater number than their block has

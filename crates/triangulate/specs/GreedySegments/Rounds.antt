@@ -6,11 +6,11 @@ use Rattle.sight_names.specs.Points.{Edge, points_of}
 use Rattle.sight_names.specs.Greedy.{edge_length, ComesBefore, IsPointPair, EdgesMeetAtEnds, line_edges}
 use Rattle.triangulate.specs.declared.greedy_segments.rounds.PointPair.{PointPair}
 use Rattle.triangulate.specs.IncidentSegments.Kept.{MeetsEach, IsCrossedBy}
-use Rattle.triangulate.specs.GreedySegments.Pairs.{AreNumbers, HasPair, IsPairBetween, IsSquareBetween, pair_edge}
+use Rattle.triangulate.specs.GreedySegments.Pairs.{AreNumbers, HasEdgeOfPair, IsPairBetween, IsSquareBetween, pair_edge}
 
 -- a line, or a member of the rest that comes before e
-abbrev pub IsEarlier : Map → List Edge → Edge → Edge → Type 0
-IsEarlier m rest e f = Contains (line_edges m) f ⊎ (Contains rest f × ComesBefore m f e)
+abbrev pub IsLineOrBefore : Map → List Edge → Edge → Edge → Type 0
+IsLineOrBefore m rest e f = Contains (line_edges m) f ⊎ (Contains rest f × ComesBefore m f e)
 
 -- the lines and then, in the order of pairs, those tried pairs that meet each earlier member at ends alone
 pub record IsGreedySoFar (m : Map) (IsTried : Edge → Type 0) (kept : List Edge) : Type 0 where
@@ -19,8 +19,8 @@ pub record IsGreedySoFar (m : Map) (IsTried : Edge → Type 0) (kept : List Edge
   pub pairs : (e : Edge) → Contains rest e → IsPointPair m e
   pub tried : (e : Edge) → Contains rest e → IsTried e
   pub ascend : (i j : ℕ) (e f : Edge) → i < j → slice_get rest i ≡ Some e → slice_get rest j ≡ Some f → ComesBefore m e f
-  pub free : (e : Edge) → Contains rest e → (f : Edge) → IsEarlier m rest e f → EdgesMeetAtEnds m e f
-  pub settled : (e : Edge) → IsPointPair m e → IsTried e → Contains rest e ⊎ ((f : Edge) × IsEarlier m rest e f × ¬ EdgesMeetAtEnds m e f)
+  pub free : (e : Edge) → Contains rest e → (f : Edge) → IsLineOrBefore m rest e f → EdgesMeetAtEnds m e f
+  pub settled : (e : Edge) → IsPointPair m e → IsTried e → Contains rest e ⊎ ((f : Edge) × IsLineOrBefore m rest e f × ¬ EdgesMeetAtEnds m e f)
 
 -- the length is less than the number
 abbrev pub IsShorter : Map → ℕ → Edge → Type 0
@@ -37,7 +37,7 @@ KeepsIfClear m e old new = (MeetsEach m old e × (new ≡ old ++ e ∷ [])) ⊎ 
 -- what is kept stays kept, and where all pairs shorter than low had been tried, these have been tried too
 pub record KeepsClear (m : Map) (pairs : List PointPair) (old new : List Edge) : Type 0 where
   pub kept : (f : Edge) → Contains old f → Contains new f
-  pub tried : (low : ℕ) → IsGreedySoFar m (IsShorter m low) old → ((p : PointPair) → Contains pairs p → (high : ℕ) × IsPairBetween m low high p) → IsGreedySoFar m (λ e. IsShorter m low e ⊎ HasPair pairs e) new
+  pub tried : (low : ℕ) → IsGreedySoFar m (IsShorter m low) old → ((p : PointPair) → Contains pairs p → (high : ℕ) × IsPairBetween m low high p) → IsGreedySoFar m (λ e. IsShorter m low e ⊎ HasEdgeOfPair pairs e) new
 
 -- the point is added at the end, or no further segment ends there
 abbrev pub AddsIfUnsaturated : Map → List Edge → ℕ → List ℕ → List ℕ → Type 0
@@ -66,9 +66,9 @@ pub record LeavesUncrossed (m : Map) (kept : List Edge) (pairs left : List Point
 -- the pairs of these numbers whose lengths are in the range, but for some that a kept segment crosses
 pub record AreUncrossed (m : Map) (kept : List Edge) (numbers : List ℕ) (low high : ℕ) (pairs : List PointPair) : Type 0 where
   pub each : (p : PointPair) → Contains pairs p → IsPairBetween m low high p
-  pub all : (e : Edge) → Contains numbers e.from → Contains numbers e.to → e.from < e.to → IsSquareBetween low high (edge_length m e) → HasPair pairs e ⊎ IsCrossedBy m kept e
+  pub all : (e : Edge) → Contains numbers e.from → Contains numbers e.to → e.from < e.to → IsSquareBetween low high (edge_length m e) → HasEdgeOfPair pairs e ⊎ IsCrossedBy m kept e
 
 -- the same of those numbers that stand from begin on and before end, each with those behind it
 pub record AreUncrossedFrom (m : Map) (kept : List Edge) (numbers : List ℕ) (low high begin end : ℕ) (pairs : List PointPair) : Type 0 where
   pub each : (p : PointPair) → Contains pairs p → IsPairBetween m low high p
-  pub all : (k from to : ℕ) → begin ≤ k → k < end → slice_get numbers k ≡ Some from → Contains numbers to → from < to → IsSquareBetween low high (edge_length m (record { from = from; to = to })) → HasPair pairs (record { from = from; to = to }) ⊎ IsCrossedBy m kept (record { from = from; to = to })
+  pub all : (k from to : ℕ) → begin ≤ k → k < end → slice_get numbers k ≡ Some from → Contains numbers to → from < to → IsSquareBetween low high (edge_length m (record { from = from; to = to })) → HasEdgeOfPair pairs (record { from = from; to = to }) ⊎ IsCrossedBy m kept (record { from = from; to = to })

@@ -9,8 +9,8 @@ use Rattle.triangulate.specs.declared.greedy_segments.saturated.Heights.{Heights
 use Rattle.triangulate.specs.IncidentSegments.Neighbours.{IsNeighbour}
 
 -- the point's y is in the range
-abbrev pub IsBetween : Pt → Heights → Type 0
-IsBetween p h = (h.low ≤ℤ p.y) × (p.y ≤ℤ h.high)
+abbrev pub IsBetweenHeights : Pt → Heights → Type 0
+IsBetweenHeights p h = (h.low ≤ℤ p.y) × (p.y ≤ℤ h.high)
 
 abbrev pub turn_between : Map → ℕ → ℕ → ℕ → ℤ
 turn_between m a b c = turn_of (place m a) (place m b) (place m c)

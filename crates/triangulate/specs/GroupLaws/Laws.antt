@@ -33,7 +33,7 @@ abbrev pub SectorsAreNamed : Type 0
 SectorsAreNamed = (p : PlanParts) (ts : List Triangle) → IsClosedMesh p ts → (s : Side) (l : MapLine) (k : ℕ) (names : List ℕ) → line_at (map_of p) s.line ≡ Some l → triangle_at ts (side_edge (map_of p) l s.left) ≡ Some k
     → AreSectorsAt (map_of p) s names ↔ AreNamedAt (map_of p) ts k names
 
-pub record HasGroups (m : Map) (ts : List Triangle) : Type 0 where
+pub record HasGroupsByMesh (m : Map) (ts : List Triangle) : Type 0 where
   pub groups : List (List ℕ)
   pub g : Map
   pub its : AreItsGroups m groups g
@@ -42,7 +42,7 @@ pub record HasGroups (m : Map) (ts : List Triangle) : Type 0 where
   pub good : IsGoodMesh g ts labels
 
 abbrev pub GroupsExist : Type 0
-GroupsExist = (p : PlanParts) (ts : List Triangle) → IsClosedMesh p ts → HasGroups (map_of p) ts
+GroupsExist = (p : PlanParts) (ts : List Triangle) → IsClosedMesh p ts → HasGroupsByMesh (map_of p) ts
 
 pub record IsSoundMap (g : Map) (ts : List Triangle) : Type 0 where
   pub is_map : IsMap g

@@ -6,7 +6,7 @@ ghost use Rattle.sight_names.specs.Map.{map_of};
 ghost use Rattle.sight_names.specs.Plan.{IsPlan};
 ghost use Rattle.sight_names.specs.Sound.{MeetAtEnds};
 ghost use Rattle.triangulate.specs.IncidentSegments.Kept.{edges_of, MeetsEach, IsCrossedBy};
-ghost use Rattle.triangulate.specs.GreedySegments.Crossed.{SegmentsMeet, IsCrossedAt};
+ghost use Rattle.triangulate.specs.GreedySegments.Crossed.{SegmentsMeet, IsSegmentCrossedAt};
 ghost use Rattle.triangulate.specs.GreedySegments.Extents.{AreExtents};
 
 use crate::greedy_segments::extents::{Extents, pair_extent_of};
@@ -23,7 +23,7 @@ pub fn segments_meet(plan: &Plan, incident: &IncidentSegments, u: u16, i: u16, j
     requires second { j < incident.now.points }
     requires differ { i ≢ j }
     ensures meet { OnTrue result (SegmentsMeet (map_of plan.now) incident.now.segments u (record { from = i; to = j })) }
-    ensures barred { OnFalse result (IsCrossedAt (map_of plan.now) incident.now.segments u (record { from = i; to = j })) }
+    ensures barred { OnFalse result (IsSegmentCrossedAt (map_of plan.now) incident.now.segments u (record { from = i; to = j })) }
     ensures plan { IsPlan plan.now }
 {
     let (hub, from, to) = (plan.place(u), plan.place(i), plan.place(j));
@@ -75,7 +75,7 @@ fn segments_meet_beyond(plan: &Plan, incident: &IncidentSegments, u: u16, i: u16
     requires differ { i ≢ j }
     requires near { SegmentsMeet (map_of plan.now) incident.now.segments i (record { from = i; to = j }) }
     ensures meet { OnTrue result (SegmentsMeet (map_of plan.now) incident.now.segments u (record { from = i; to = j })) }
-    ensures barred { OnFalse result (IsCrossedAt (map_of plan.now) incident.now.segments u (record { from = i; to = j })) }
+    ensures barred { OnFalse result (IsSegmentCrossedAt (map_of plan.now) incident.now.segments u (record { from = i; to = j })) }
 {
     if u == i {
         return true;

@@ -9,7 +9,7 @@ ghost use Rattle.sight_names.specs.Plan.{IsPlan, IsPlanLine};
 ghost use Rattle.sight_names.specs.Greedy.{square_length, line_edges, IsGreedy, IsPointPair};
 ghost use Rattle.triangulate.specs.declared.greedy_segments.rounds.PointPair.{PointPair};
 ghost use Rattle.triangulate.specs.IncidentSegments.Kept.{AreEdges, edges_of};
-ghost use Rattle.triangulate.specs.GreedySegments.Pairs.{AreNumbers, AreInOrder, ArePairsBetween, ArePairsFrom, AddsIfBetween, AddsPairs, IsReach, IsSquareBetween, IsWithin, pair_edge};
+ghost use Rattle.triangulate.specs.GreedySegments.Pairs.{AreNumbers, ArePointPairsInOrder, ArePairsBetween, ArePairsFrom, AddsIfBetween, AddsPairs, IsReach, IsSquareBetween, IsPointWithin, pair_edge};
 ghost use Rattle.triangulate.specs.GreedySegments.Extents.{AreExtents};
 ghost use Rattle.triangulate.specs.GreedySegments.Searched.{AreSearched};
 ghost use Rattle.triangulate.specs.GreedySegments.Rounds.{AddsIfUnsaturated, AreUnsaturated, KeepsClear, KeepsIfClear, edges_of_line};
@@ -129,7 +129,7 @@ fn reach_of(plan: &Plan) -> u32
 /// The greater absolute value of the two coordinates.
 fn reach_of_point(p: Pt) -> u32
     ensures bound { result ≤ 2 ^ 25 }
-    ensures all { IsWithin result p }
+    ensures all { IsPointWithin result p }
 {
     let across = p.x.unsigned_abs();
     let up = p.y.unsigned_abs();
@@ -345,7 +345,7 @@ fn is_between(square: u64, low: u32, high: u32) -> bool
 /// Sorts the pairs by length, then by the first number, then by the second.
 fn sort_pairs(pairs: &mut Vec<PointPair>)
     ensures same { IsPermutation pairs.old.items pairs.new.items }
-    ensures order { AreInOrder pairs.new.items }
+    ensures order { ArePointPairsInOrder pairs.new.items }
 {
     pairs.sort_unstable();
 }
@@ -360,7 +360,7 @@ fn keep_clear_pairs(
     requires plan { IsPlan plan.now }
     requires points { incident.old.points ≡ length plan.now.points }
     requires extents { AreExtents (map_of plan.now) incident.old.segments extents.old.extents.items }
-    requires order { AreInOrder pairs.now }
+    requires order { ArePointPairsInOrder pairs.now }
     requires pairs { (p : PointPair) → Contains pairs.now p → IsPointPair (map_of plan.now) (pair_edge p) }
     ensures points { OnOk result (incident.new.points ≡ length plan.now.points) }
     ensures extents { OnOk result (AreExtents (map_of plan.now) incident.new.segments extents.new.extents.items) }

@@ -5,7 +5,7 @@ ghost use Rattle.std.specs.Bool.{OnTrue, OnFalse};
 ghost use Rattle.geom_exact.specs.Formulas.{turn_of};
 ghost use Rattle.sight_names.specs.Map.{map_of};
 ghost use Rattle.sight_names.specs.Plan.{IsPlan};
-ghost use Rattle.triangulate.specs.GreedySegments.Saturated.{HasNoneLeft, HasTriangleLeft, HasNeighbourRight, HasFaceLeft, HasFaceRight, IsBetween, IsEmptyTriangle};
+ghost use Rattle.triangulate.specs.GreedySegments.Saturated.{HasNoneLeft, HasTriangleLeft, HasNeighbourRight, HasFaceLeft, HasFaceRight, IsBetweenHeights, IsEmptyTriangle};
 ghost use Rattle.triangulate.specs.IncidentSegments.Kept.{edges_of};
 ghost use Rattle.triangulate.specs.GreedySegments.Rounds.{IsSaturated};
 ghost use Rattle.triangulate.specs.IncidentSegments.Neighbours.{IsNeighbour};
@@ -61,9 +61,9 @@ struct Heights {
 
 /// The range of y that the corners span.
 fn heights_of(a: Pt, b: Pt, c: Pt) -> Heights
-    ensures first { IsBetween a result }
-    ensures second { IsBetween b result }
-    ensures third { IsBetween c result }
+    ensures first { IsBetweenHeights a result }
+    ensures second { IsBetweenHeights b result }
+    ensures third { IsBetweenHeights c result }
 {
     Heights {
         low: a.y.min(b.y).min(c.y),
@@ -73,7 +73,7 @@ fn heights_of(a: Pt, b: Pt, c: Pt) -> Heights
 
 /// Whether the point's y is in the range. Both sides are looked at: mostly one of them says no, and which one is a toss.
 fn is_between(p: Pt, heights: Heights) -> bool
-    ensures { IsTrue result ↔ IsBetween p heights }
+    ensures { IsTrue result ↔ IsBetweenHeights p heights }
 {
     (heights.low <= p.y) & (p.y <= heights.high)
 }
@@ -81,9 +81,9 @@ fn is_between(p: Pt, heights: Heights) -> bool
 /// Whether the point is strictly inside the triangle, whose corners stand counterclockwise and span this range of y.
 fn is_inside(a: Pt, b: Pt, c: Pt, heights: Heights, p: Pt) -> bool
     requires turn { pos 0 <ℤ turn_of a b c }
-    requires first { IsBetween a heights }
-    requires second { IsBetween b heights }
-    requires third { IsBetween c heights }
+    requires first { IsBetweenHeights a heights }
+    requires second { IsBetweenHeights b heights }
+    requires third { IsBetweenHeights c heights }
     ensures { IsTrue result ↔ ((pos 0 <ℤ turn_of a b p) × (pos 0 <ℤ turn_of b c p) × (pos 0 <ℤ turn_of c a p)) }
 {
     is_between(p, heights) && in_triangle(a, b, c, p)

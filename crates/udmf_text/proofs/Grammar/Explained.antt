@@ -1,7 +1,7 @@
 -- What is still to come at a place in a text, and how one token more goes into it.
 use Rattle.std.proofs.Common.{◌≡◌, ℕ, ◌-◌, List, [], ◌∷◌, ◌++◌, Option, Some, None, Result, Ok, Err, refl, sym, subst, arith}
 use Rattle.std.proofs.lemmas.List.{append_assoc}
-use Rattle.udmf_text.specs.TextTokens.Text.{PlacedParts, next_of}
+use Rattle.udmf_text.specs.TextTokens.Text.{PlacedParts, first_token_of}
 use Rattle.udmf_text.specs.Told.{PlacedPart}
 use Rattle.udmf_text.specs.Grammar.{Begins, no_token, one_token}
 
@@ -13,7 +13,7 @@ pub record Whole (X : ToCome) (text : List ℕ) (parts : List PlacedPart) : Type
   pub tokens : List PlacedParts
   pub rest : List ℕ
   pub begins : Begins rest text tokens
-  pub ends : next_of rest ≡ Ok None
+  pub ends : first_token_of rest ≡ Ok None
   pub fits : X tokens parts
 
 abbrev pub Breaks : ℕ → ToCome → List PlacedParts → Result (Option PlacedParts) ℕ → ℕ → Type 0
@@ -28,7 +28,7 @@ pub record Broken (total : ℕ) (X : ToCome) (text : List ℕ) (parts : List Pla
   pub more : List PlacedParts
   pub others : List PlacedPart
   pub fits : X (before ++ more) (parts ++ others)
-  pub breaks : Breaks total X before (next_of rest) at
+  pub breaks : Breaks total X before (first_token_of rest) at
 
 -- parts and the first fault, if there is one, are those of a text of which this is left
 abbrev pub Explains : ℕ → ToCome → List ℕ → List PlacedPart → Option ℕ → Type 0
@@ -43,19 +43,19 @@ pub record Viable (X : ToCome) : Type 0 where
 
 -- ---- a fault at the front
 
-at_front : (total : ℕ) (X : ToCome) (text : List ℕ) (at : ℕ) → Viable X → Breaks total X [] (next_of text) at → Explains total X text [] (Some at)
+at_front : (total : ℕ) (X : ToCome) (text : List ℕ) (at : ℕ) → Viable X → Breaks total X [] (first_token_of text) at → Explains total X text [] (Some at)
 at_front total X text at v b = record { before = []; rest = text; begins = no_token refl refl; more = v.tokens; others = v.parts; fits = v.fits; breaks = b }
 
-pub unread : (total : ℕ) (X : ToCome) (text : List ℕ) (left : ℕ) → Viable X → next_of text ≡ Err left → Explains total X text [] (Some (total - left))
+pub unread : (total : ℕ) (X : ToCome) (text : List ℕ) (left : ℕ) → Viable X → first_token_of text ≡ Err left → Explains total X text [] (Some (total - left))
 unread total X text left v e = at_front total X text (total - left) v (subst (λ r. Breaks total X [] r (total - left)) (sym e) refl)
 
-pub early : (total : ℕ) (X : ToCome) (text : List ℕ) → Viable X → next_of text ≡ Ok None → ((ps : List PlacedPart) → X [] ps → ⊥) → Explains total X text [] (Some (total - 0))
+pub early : (total : ℕ) (X : ToCome) (text : List ℕ) → Viable X → first_token_of text ≡ Ok None → ((ps : List PlacedPart) → X [] ps → ⊥) → Explains total X text [] (Some (total - 0))
 early total X text v e never = at_front total X text (total - 0) v (subst (λ r. Breaks total X [] r (total - 0)) (sym e) (omega arith, never))
 
-pub wrong : (total : ℕ) (X : ToCome) (text : List ℕ) (t : PlacedParts) → Viable X → next_of text ≡ Ok (Some t) → ((more : List PlacedParts) (ps : List PlacedPart) → X (t ∷ more) ps → ⊥) → Explains total X text [] (Some (total - t.left))
+pub wrong : (total : ℕ) (X : ToCome) (text : List ℕ) (t : PlacedParts) → Viable X → first_token_of text ≡ Ok (Some t) → ((more : List PlacedParts) (ps : List PlacedPart) → X (t ∷ more) ps → ⊥) → Explains total X text [] (Some (total - t.left))
 wrong total X text t v e never = at_front total X text (total - t.left) v (subst (λ r. Breaks total X [] r (total - t.left)) (sym e) (refl, never))
 
-pub ended : (total : ℕ) (X : ToCome) (text : List ℕ) → next_of text ≡ Ok None → X [] [] → Explains total X text [] None
+pub ended : (total : ℕ) (X : ToCome) (text : List ℕ) → first_token_of text ≡ Ok None → X [] [] → Explains total X text [] None
 ended total X text e fits = record { tokens = []; rest = text; begins = no_token refl refl; ends = e; fits = fits }
 
 -- ---- a token more in front
@@ -70,7 +70,7 @@ push_breaks total X Y t made before at b (Err left) h = h
 push_breaks total X Y t made before at b (Ok None) h = (h.0, λ ps x. let y = b.out before ps x in h.1 y.0 y.1)
 push_breaks total X Y t made before at b (Ok (Some u)) h = (h.0, λ more ps x. let y = b.out (before ++ u ∷ more) ps x in h.1 more y.0 y.1)
 
-pub push : (total : ℕ) (X Y : ToCome) (text : List ℕ) (t : PlacedParts) (made : List PlacedPart) → Behind X Y t made → next_of text ≡ Ok (Some t) → (parts : List PlacedPart) (fault : Option ℕ) → Explains total Y t.token.rest parts fault → Explains total X text (made ++ parts) fault
+pub push : (total : ℕ) (X Y : ToCome) (text : List ℕ) (t : PlacedParts) (made : List PlacedPart) → Behind X Y t made → first_token_of text ≡ Ok (Some t) → (parts : List PlacedPart) (fault : Option ℕ) → Explains total Y t.token.rest parts fault → Explains total X text (made ++ parts) fault
 push total X Y text t made b found parts None w = record { tokens = t ∷ w.tokens; rest = w.rest; begins = one_token t w.tokens found refl w.begins; ends = w.ends; fits = b.into w.tokens parts w.fits }
 push total X Y text t made b found parts (Some at) w =
     let fits : X (t ∷ (w.before ++ w.more)) (made ++ (parts ++ w.others)) = b.into (w.before ++ w.more) (parts ++ w.others) w.fits in
@@ -81,7 +81,7 @@ push total X Y text t made b found parts (Some at) w =
       more = w.more;
       others = w.others;
       fits = subst (λ ps. X (t ∷ (w.before ++ w.more)) ps) (sym (append_assoc made parts w.others)) fits;
-      breaks = push_breaks total X Y t made w.before at b (next_of w.rest) w.breaks;
+      breaks = push_breaks total X Y t made w.before at b (first_token_of w.rest) w.breaks;
     }
 
 -- two words for what may come
@@ -92,4 +92,4 @@ same_breaks total X Y before at back (Ok (Some t)) h = (h.0, λ more ps y. h.1 m
 
 pub same : (total : ℕ) (X Y : ToCome) (text : List ℕ) → ((ts : List PlacedParts) (ps : List PlacedPart) → X ts ps → Y ts ps) → ((ts : List PlacedParts) (ps : List PlacedPart) → Y ts ps → X ts ps) → (parts : List PlacedPart) (fault : Option ℕ) → Explains total X text parts fault → Explains total Y text parts fault
 same total X Y text there back parts None w = record { tokens = w.tokens; rest = w.rest; begins = w.begins; ends = w.ends; fits = there w.tokens parts w.fits }
-same total X Y text there back parts (Some at) w = record { before = w.before; rest = w.rest; begins = w.begins; more = w.more; others = w.others; fits = there (w.before ++ w.more) (parts ++ w.others) w.fits; breaks = same_breaks total X Y w.before at back (next_of w.rest) w.breaks }
+same total X Y text there back parts (Some at) w = record { before = w.before; rest = w.rest; begins = w.begins; more = w.more; others = w.others; fits = there (w.before ++ w.more) (parts ++ w.others) w.fits; breaks = same_breaks total X Y w.before at back (first_token_of w.rest) w.breaks }

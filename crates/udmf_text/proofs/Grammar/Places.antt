@@ -6,7 +6,7 @@ use Rattle.udmf_text.specs.declared.text_tokens.token.Kind.TheVariants.{Open, Cl
 use Rattle.udmf_text.specs.TextTokens.Text.{PlacedParts}
 use Rattle.udmf_text.specs.Parts.{is_kind, Opens, Gives, Closes, StageBytes, Outside, Behind, Valued, Inside, ValuedInside}
 use Rattle.udmf_text.specs.Told.{PlacedPart}
-use Rattle.udmf_text.specs.Grammar.{IsMark, IsName, IsValue, Assignment, IsAssignment, Block, TextItem, Assigned, Blocked, IsItem, assignment_tokens, item_tokens, AreItems, at_token, gives, named, item_parts}
+use Rattle.udmf_text.specs.Grammar.{IsMark, IsName, IsValue, Assignment, IsAssignment, Block, TextItem, Assigned, Blocked, IsItem, assignment_tokens, item_tokens, AreItems, at_token, gives, item_named, item_parts}
 use Rattle.udmf_text.proofs.Grammar.Explained.{ToCome}
 
 -- a token that passes a test, and behind it what may come behind this token; the parts that it makes stand in front
@@ -76,7 +76,7 @@ abbrev pub InBlock : ℕ → List PlacedParts → List PlacedPart → Type 0
 InBlock total ts ps = ClosesBlock total ts ps ⊎ Keyed total ts ps
 
 abbrev pub name_at : ℕ → PlacedParts → List PlacedPart
-name_at total t = named total t ∷ []
+name_at total t = item_named total t ∷ []
 
 abbrev pub NamesItem : ℕ → ToCome
 NamesItem total = Then IsName (name_at total) (λ t. Named total t.token.bytes)
@@ -116,7 +116,7 @@ items_out total ts ps i = by_items i.items i.are.each i.are.spelled i.parts
         let opens : OpensBlock total b.name.token.bytes (b.open_brace ∷ inner) (at_token total b.open_brace (Opens b.name.token.bytes) ∷ inner_parts) = record { first = b.open_brace; passes = each.0.open_brace; more = inner; others = inner_parts; spelled = refl; parts = refl; behind = pairs } in
         let cut = append_assoc (flat_map assignment_tokens b.pairs) (b.close_brace ∷ []) (flat_map item_tokens items) in
         let cut_parts = append_assoc (map (gives total) b.pairs) (at_token total b.close_brace Closes ∷ []) (flat_map (item_parts total) items) in
-        inr (record { first = b.name; passes = each.0.name; more = b.open_brace ∷ inner; others = at_token total b.open_brace (Opens b.name.token.bytes) ∷ inner_parts; spelled = spelled ∙ ap (λ xs. b.name ∷ b.open_brace ∷ xs) cut; parts = parts ∙ ap (λ xs. named total b.name ∷ at_token total b.open_brace (Opens b.name.token.bytes) ∷ xs) cut_parts; behind = inl opens })
+        inr (record { first = b.name; passes = each.0.name; more = b.open_brace ∷ inner; others = at_token total b.open_brace (Opens b.name.token.bytes) ∷ inner_parts; spelled = spelled ∙ ap (λ xs. b.name ∷ b.open_brace ∷ xs) cut; parts = parts ∙ ap (λ xs. item_named total b.name ∷ at_token total b.open_brace (Opens b.name.token.bytes) ∷ xs) cut_parts; behind = inl opens })
 
 -- an item in front of items
 put_item : (total : ℕ) (item : TextItem) (ts more : List PlacedParts) (ps others : List PlacedPart) → IsItem item → ts ≡ item_tokens item ++ more → ps ≡ item_parts total item ++ others → Items total more others → Items total ts ps
@@ -137,14 +137,14 @@ items_in total ts ps (inr n) = by_behind n.behind
         let cut = append_assoc (flat_map assignment_tokens p.pairs) (p.close_brace ∷ []) p.more in
         let cut_parts = append_assoc (map (gives total) p.pairs) (at_token total p.close_brace Closes ∷ []) p.others in
         let spelled : ts ≡ item_tokens (Blocked b) ++ p.more = n.spelled ∙ ap (λ xs. n.first ∷ xs) (o.spelled ∙ ap (λ xs. o.first ∷ xs) (p.spelled ∙ sym cut)) in
-        let parts : ps ≡ item_parts total (Blocked b) ++ p.others = n.parts ∙ ap (λ xs. named total n.first ∷ xs) (o.parts ∙ ap (λ xs. at_token total o.first (Opens n.first.token.bytes) ∷ xs) (p.parts ∙ sym cut_parts)) in
+        let parts : ps ≡ item_parts total (Blocked b) ++ p.others = n.parts ∙ ap (λ xs. item_named total n.first ∷ xs) (o.parts ∙ ap (λ xs. at_token total o.first (Opens n.first.token.bytes) ∷ xs) (p.parts ∙ sym cut_parts)) in
         put_item total (Blocked b) ts p.more ps p.others (record { name = n.passes; open_brace = o.passes; pairs = p.each; close_brace = p.mark }) spelled parts p.behind
     by_behind (inr e) =
         let v = e.behind in
         let s = v.behind in
         let a : Assignment = record { name = n.first; equals = e.first; value = v.first; end = s.first } in
         let spelled : ts ≡ item_tokens (Assigned a) ++ s.more = n.spelled ∙ ap (λ xs. n.first ∷ xs) (e.spelled ∙ ap (λ xs. e.first ∷ xs) (v.spelled ∙ ap (λ xs. v.first ∷ xs) s.spelled)) in
-        let parts : ps ≡ item_parts total (Assigned a) ++ s.others = n.parts ∙ ap (λ xs. named total n.first ∷ xs) (e.parts ∙ (v.parts ∙ ap (λ xs. gives total a ∷ xs) s.parts)) in
+        let parts : ps ≡ item_parts total (Assigned a) ++ s.others = n.parts ∙ ap (λ xs. item_named total n.first ∷ xs) (e.parts ∙ (v.parts ∙ ap (λ xs. gives total a ∷ xs) s.parts)) in
         put_item total (Assigned a) ts s.more ps s.others (record { name = n.passes; equals = e.passes; value = v.passes; end = s.passes }) spelled parts s.behind
 
 -- ---- the inside of a block by its first token

@@ -5,7 +5,7 @@ use Rattle.std.proofs.lemmas.Bool.{eqb-true, le-leb, leb-true, true≢false, cas
 use Rattle.std.proofs.lemmas.Bool.Decides.{eqb_tells}
 use Rattle.udmf_text.specs.declared.text_tokens.between.Gap.{Gap}
 use Rattle.udmf_text.specs.declared.text_tokens.between.Gap.TheVariants.{Between, InLine, Opening, InBlock, Closing}
-use Rattle.udmf_text.specs.TextTokens.Between.{begins_with, step_of, opened_at, left_of, left_behind}
+use Rattle.udmf_text.specs.TextTokens.Between.{begins_with_byte, step_of, opened_at, left_behind_gap, left_behind}
 use Rattle.udmf_text.specs.TextTokens.Laws.{has_line_feed, has_close, IsBehindGap, none, blank, line, last_line, block, begins_gap, IsUnclosed, GapsEnd, FaultIsUnclosed}
 
 or_parts : (x y : Bool) → (x || y) ≡ false → (x ≡ false) × (y ≡ false)
@@ -14,47 +14,47 @@ or_parts true y h = absurd (true≢false h)
 
 -- what is left behind a byte
 abbrev after : List ℕ → ℕ → List ℕ → Option Gap → Result (List ℕ) (List ℕ)
-after o c cs (Some next) = left_of next (opened_at next (c ∷ cs) o) cs
+after o c cs (Some next) = left_behind_gap next (opened_at next (c ∷ cs) o) cs
 after o c cs None = Ok (c ∷ cs)
 
-after_is : (gap : Gap) (o : List ℕ) (c : ℕ) (cs : List ℕ) (s : Option Gap) → step_of gap c cs ≡ s → left_of gap o (c ∷ cs) ≡ after o c cs s
+after_is : (gap : Gap) (o : List ℕ) (c : ℕ) (cs : List ℕ) (s : Option Gap) → step_of gap c cs ≡ s → left_behind_gap gap o (c ∷ cs) ≡ after o c cs s
 after_is gap o c cs s e = by_step (step_of gap c cs) e
   where
-    by_step : (t : Option Gap) → t ≡ s → (elim t as (λ _. Result (List ℕ) (List ℕ)) [ Some next ↦ left_of next (opened_at next (c ∷ cs) o) cs | None ↦ Ok (c ∷ cs) ]) ≡ after o c cs s
+    by_step : (t : Option Gap) → t ≡ s → (elim t as (λ _. Result (List ℕ) (List ℕ)) [ Some next ↦ left_behind_gap next (opened_at next (c ∷ cs) o) cs | None ↦ Ok (c ∷ cs) ]) ≡ after o c cs s
     by_step None h = rw (← h) refl
     by_step (Some n) h = rw (← h) refl
 
-line_goes : (o words more : List ℕ) → has_line_feed words ≡ false → left_of InLine o (words ++ 10 ∷ more) ≡ left_of Between o more
+line_goes : (o words more : List ℕ) → has_line_feed words ≡ false → left_behind_gap InLine o (words ++ 10 ∷ more) ≡ left_behind_gap Between o more
 line_goes o [] more h = refl
 line_goes o (c ∷ cs) more h =
     let parts = or_parts (eqb c 10) (has_line_feed cs) h in
     after_is InLine o c (cs ++ 10 ∷ more) (Some InLine) (ap (λ b. Some (cond b Between InLine)) parts.0) ∙ line_goes o cs more parts.1
 
-line_ends : (o words : List ℕ) → has_line_feed words ≡ false → left_of InLine o words ≡ Ok []
+line_ends : (o words : List ℕ) → has_line_feed words ≡ false → left_behind_gap InLine o words ≡ Ok []
 line_ends o [] h = refl
 line_ends o (c ∷ cs) h =
     let parts = or_parts (eqb c 10) (has_line_feed cs) h in
     after_is InLine o c cs (Some InLine) (ap (λ b. Some (cond b Between InLine)) parts.0) ∙ line_ends o cs parts.1
 
 -- a star that ends the words is closed by no star
-no_close : (c : ℕ) (cs more : List ℕ) → (eqb c 42 && begins_with 47 cs) ≡ false → (eqb c 42 && begins_with 47 (cs ++ 42 ∷ 47 ∷ more)) ≡ false
+no_close : (c : ℕ) (cs more : List ℕ) → (eqb c 42 && begins_with_byte 47 cs) ≡ false → (eqb c 42 && begins_with_byte 47 (cs ++ 42 ∷ 47 ∷ more)) ≡ false
 no_close c [] more h = h
 no_close c (d ∷ ds) more h = h
 
-block_goes : (o words more : List ℕ) → has_close words ≡ false → left_of InBlock o (words ++ 42 ∷ 47 ∷ more) ≡ left_of Between o more
+block_goes : (o words more : List ℕ) → has_close words ≡ false → left_behind_gap InBlock o (words ++ 42 ∷ 47 ∷ more) ≡ left_behind_gap Between o more
 block_goes o [] more h = refl
 block_goes o (c ∷ cs) more h =
-    let parts = or_parts (eqb c 42 && begins_with 47 cs) (has_close cs) h in
+    let parts = or_parts (eqb c 42 && begins_with_byte 47 cs) (has_close cs) h in
     after_is InBlock o c (cs ++ 42 ∷ 47 ∷ more) (Some InBlock) (ap (λ b. Some (cond b Closing InBlock)) (no_close c cs more parts.0)) ∙ block_goes o cs more parts.1
 
-block_opened : (o words : List ℕ) → has_close words ≡ false → left_of InBlock o words ≡ Err o
+block_opened : (o words : List ℕ) → has_close words ≡ false → left_behind_gap InBlock o words ≡ Err o
 block_opened o [] h = refl
 block_opened o (c ∷ cs) h =
-    let parts = or_parts (eqb c 42 && begins_with 47 cs) (has_close cs) h in
+    let parts = or_parts (eqb c 42 && begins_with_byte 47 cs) (has_close cs) h in
     after_is InBlock o c cs (Some InBlock) (ap (λ b. Some (cond b Closing InBlock)) parts.0) ∙ block_opened o cs parts.1
 
-blank_goes : (o more : List ℕ) (c : ℕ) → c ≤ 32 → left_of Between o (c ∷ more) ≡ left_of Between o more
-blank_goes o more c h = after_is Between o c more (Some Between) (ap (λ b. cond b (Some Between) (cond (eqb c 47) (cond (begins_with 47 more) (Some InLine) (cond (begins_with 42 more) (Some Opening) None)) None)) (le-leb c 32 h))
+blank_goes : (o more : List ℕ) (c : ℕ) → c ≤ 32 → left_behind_gap Between o (c ∷ more) ≡ left_behind_gap Between o more
+blank_goes o more c h = after_is Between o c more (Some Between) (ap (λ b. cond b (Some Between) (cond (eqb c 47) (cond (begins_with_byte 47 more) (Some InLine) (cond (begins_with_byte 42 more) (Some Opening) None)) None)) (le-leb c 32 h))
 
 none_begins : (b s l m : Bool) → (b || (s && (l || m))) ≡ false → cond b (Some Between) (cond s (cond l (Some InLine) (cond m (Some Opening) None)) None) ≡ None
 none_begins true s l m h = absurd (true≢false h)
@@ -63,18 +63,18 @@ none_begins false true true m h = absurd (true≢false h)
 none_begins false true false true h = absurd (true≢false h)
 none_begins false true false false h = refl
 
-stops : (rest : List ℕ) → begins_gap rest ≡ false → (o : List ℕ) → left_of Between o rest ≡ Ok rest
+stops : (rest : List ℕ) → begins_gap rest ≡ false → (o : List ℕ) → left_behind_gap Between o rest ≡ Ok rest
 stops [] h o = refl
-stops (c ∷ cs) h o = after_is Between o c cs None (none_begins (leb c 32) (eqb c 47) (begins_with 47 cs) (begins_with 42 cs) h)
+stops (c ∷ cs) h o = after_is Between o c cs None (none_begins (leb c 32) (eqb c 47) (begins_with_byte 47 cs) (begins_with_byte 42 cs) h)
 
-stops_unclosed : (rest : List ℕ) → IsUnclosed rest → (o : List ℕ) → left_of Between o rest ≡ Err rest
+stops_unclosed : (rest : List ℕ) → IsUnclosed rest → (o : List ℕ) → left_behind_gap Between o rest ≡ Err rest
 stops_unclosed rest u o = rw u.1 (block_opened (47 ∷ 42 ∷ u.0) u.0 u.2)
 
-gap_goes : (rest : List ℕ) (X : Result (List ℕ) (List ℕ)) → ((o : List ℕ) → left_of Between o rest ≡ X) → (text : List ℕ) → IsBehindGap rest text → (o : List ℕ) → left_of Between o text ≡ X
+gap_goes : (rest : List ℕ) (X : Result (List ℕ) (List ℕ)) → ((o : List ℕ) → left_behind_gap Between o rest ≡ X) → (text : List ℕ) → IsBehindGap rest text → (o : List ℕ) → left_behind_gap Between o text ≡ X
 gap_goes rest X stop text (none e) o = rw e (stop o)
 gap_goes rest X stop text (blank c more e h g) o = rw e (blank_goes o more c h ∙ gap_goes rest X stop more g o)
 gap_goes rest X stop text (line words more e h g) o = rw e (line_goes o words more h ∙ gap_goes rest X stop more g o)
-gap_goes rest X stop text (last_line words e h r) o = rw e (line_ends o words h ∙ subst (λ t. left_of Between o t ≡ X) r (stop o))
+gap_goes rest X stop text (last_line words e h r) o = rw e (line_ends o words h ∙ subst (λ t. left_behind_gap Between o t ≡ X) r (stop o))
 gap_goes rest X stop text (block words more e h g) o =
     let here : List ℕ = 47 ∷ 42 ∷ (words ++ 42 ∷ 47 ∷ more) in
     rw e (block_goes here words more h ∙ gap_goes rest X stop more g here)
@@ -104,7 +104,7 @@ line_push c cs s p = by_test (eqb_tells c 10) p
     by_test (inr t) (inl q) = inl (record { words = c ∷ q.words; more = q.more; is = ap (λ x. c ∷ x) q.is; first = ap (λ b. b || has_line_feed q.words) t.0 ∙ q.first; splits = q.splits })
     by_test (inr t) (inr h) = inr (ap (λ b. b || has_line_feed cs) t.0 ∙ h)
 
-begins_is : (b : ℕ) (cs : List ℕ) → begins_with b cs ≡ true → (more : List ℕ) × (cs ≡ b ∷ more)
+begins_is : (b : ℕ) (cs : List ℕ) → begins_with_byte b cs ≡ true → (more : List ℕ) × (cs ≡ b ∷ more)
 begins_is b [] h = absurd (true≢false (sym h))
 begins_is b (c ∷ cs) h = (cs, ap (λ x. x ∷ cs) (eqb-true c b h))
 
@@ -120,16 +120,16 @@ no_and : (b : Bool) → (b && false) ≡ false
 no_and true = refl
 no_and false = refl
 
-still_open : (c : ℕ) (cs words more : List ℕ) → cs ≡ words ++ (42 ∷ 47 ∷ more) → (eqb c 42 && begins_with 47 cs) ≡ false → (eqb c 42 && begins_with 47 words) ≡ false
+still_open : (c : ℕ) (cs words more : List ℕ) → cs ≡ words ++ (42 ∷ 47 ∷ more) → (eqb c 42 && begins_with_byte 47 cs) ≡ false → (eqb c 42 && begins_with_byte 47 words) ≡ false
 still_open c cs [] more e h = no_and (eqb c 42)
-still_open c cs (d ∷ ds) more e h = ap (λ x. eqb c 42 && begins_with 47 x) (sym e) ∙ h
+still_open c cs (d ∷ ds) more e h = ap (λ x. eqb c 42 && begins_with_byte 47 x) (sym e) ∙ h
 
 block_push : (c : ℕ) (cs : List ℕ) → TailSplits cs → Parts (42 ∷ 47 ∷ []) has_close cs → Parts (42 ∷ 47 ∷ []) has_close (c ∷ cs)
-block_push c cs s p = by_test (cases_Bool (eqb c 42 && begins_with 47 cs)) p
+block_push c cs s p = by_test (cases_Bool (eqb c 42 && begins_with_byte 47 cs)) p
   where
-    by_test : ((eqb c 42 && begins_with 47 cs) ≡ true) ⊎ ((eqb c 42 && begins_with 47 cs) ≡ false) → Parts (42 ∷ 47 ∷ []) has_close cs → Parts (42 ∷ 47 ∷ []) has_close (c ∷ cs)
+    by_test : ((eqb c 42 && begins_with_byte 47 cs) ≡ true) ⊎ ((eqb c 42 && begins_with_byte 47 cs) ≡ false) → Parts (42 ∷ 47 ∷ []) has_close cs → Parts (42 ∷ 47 ∷ []) has_close (c ∷ cs)
     by_test (inl t) p =
-        let both = and_parts (eqb c 42) (begins_with 47 cs) t in
+        let both = and_parts (eqb c 42) (begins_with_byte 47 cs) t in
         let tail = begins_is 47 cs both.1 in
         let star : c ≡ 42 = eqb-true c 42 both.0 in
         inl (record { words = []; more = tail.0; is = ap (λ x. x ∷ cs) star ∙ ap (λ x. 42 ∷ x) tail.1; first = refl; splits = tail_of cs tail.0 47 tail.1 s })

@@ -5,7 +5,7 @@ use Rattle.std.proofs.lemmas.List.{take-append-drop}
 use Rattle.std.proofs.lemmas.Bool.{true≢false, ne_eqb, cases_Bool}
 use Rattle.std.proofs.lemmas.Bool.Decides.{eqb_tells}
 use Rattle.udmf_text.specs.declared.text_tokens.token.Kind.TheVariants as kind
-use Rattle.udmf_text.specs.TextTokens.Tokens.{TokenParts, ends_word, word_len, behind_quote, quoted_of, word_of}
+use Rattle.udmf_text.specs.TextTokens.Tokens.{TokenParts, ends_word, word_len, behind_quote, quoted_of, word_token_of}
 use Rattle.udmf_text.specs.TextTokens.TokenLaws.{IsQuoted, nothing, plain, escaped, IsString, StringsEnd, AreInWord, stops_word, IsWord, WordsAreLongest}
 
 plain_goes : (c : ℕ) (cs : List ℕ) → eqb c 34 ≡ false → eqb c 92 ≡ false → behind_quote false (c ∷ cs) ≡ behind_quote false cs
@@ -98,14 +98,14 @@ word_parts b r = Some (record { kind = kind.Word; bytes = b; rest = r })
 abbrev word_at : List ℕ → ℕ → Option TokenParts
 word_at text n = cond (eqb n 0) None (word_parts (take n text) (drop n text))
 
-word_is : (bytes rest : List ℕ) → AreInWord bytes rest → stops_word rest ≡ true → bytes ≢ [] → word_of (bytes ++ rest) ≡ word_parts bytes rest
+word_is : (bytes rest : List ℕ) → AreInWord bytes rest → stops_word rest ≡ true → bytes ≢ [] → word_token_of (bytes ++ rest) ≡ word_parts bytes rest
 word_is [] rest a s some = absurd (some refl)
 word_is (c ∷ cs) rest a s some =
     let bytes : List ℕ = c ∷ cs in
     let text : List ℕ = bytes ++ rest in
     let len : word_len text ≡ length bytes = word_len_is bytes rest a s in
     let more : eqb (length bytes) 0 ≡ false = ne_eqb (length bytes) 0 (λ e. omega arith) in
-    let at : word_of text ≡ word_at text (length bytes) = ap (word_at text) len in
+    let at : word_token_of text ≡ word_at text (length bytes) = ap (word_at text) len in
     let there : word_at text (length bytes) ≡ word_parts (take (length bytes) text) (drop (length bytes) text) = ap (λ b. cond b None (word_parts (take (length bytes) text) (drop (length bytes) text))) more in
     let cut : word_parts (take (length bytes) text) (drop (length bytes) text) ≡ word_parts bytes (drop (length bytes) text) = ap (λ (b : List ℕ). word_parts b (drop (length bytes) text)) (take-append_seam bytes rest) in
     let left : word_parts bytes (drop (length bytes) text) ≡ word_parts bytes rest = ap (word_parts bytes) (drop-append_seam bytes rest) in
@@ -117,15 +117,15 @@ words_are_longest text t = (λ e. forward e (cases_Bool (eqb (word_len text) 0))
     made : TokenParts
     made = record { kind = kind.Word; bytes = take (word_len text) text; rest = drop (word_len text) text }
 
-    forward : word_of text ≡ Some t → (eqb (word_len text) 0 ≡ true) ⊎ (eqb (word_len text) 0 ≡ false) → IsWord text t
-    forward e (inl h) = let told : word_of text ≡ None = ap (λ b. cond b None (Some made)) h in absurd cc
+    forward : word_token_of text ≡ Some t → (eqb (word_len text) 0 ≡ true) ⊎ (eqb (word_len text) 0 ≡ false) → IsWord text t
+    forward e (inl h) = let told : word_token_of text ≡ None = ap (λ b. cond b None (Some made)) h in absurd cc
     forward e (inr h) =
-        let told : word_of text ≡ Some made = ap (λ b. cond b None (Some made)) h in
+        let told : word_token_of text ≡ Some made = ap (λ b. cond b None (Some made)) h in
         let same : made ≡ t = cc in
         let stands = in_word text in
         subst (IsWord text) same (record { kind = refl; is = sym (take-append-drop (word_len text) text); some = word_some text h; bytes = stands.0; longest = stands.1 })
 
-    backward : IsWord text t → word_of text ≡ Some t
+    backward : IsWord text t → word_token_of text ≡ Some t
     backward s =
-        let told : word_of text ≡ Some (record { kind = kind.Word; bytes = t.bytes; rest = t.rest }) = rw s.is (word_is t.bytes t.rest s.bytes s.longest s.some) in
+        let told : word_token_of text ≡ Some (record { kind = kind.Word; bytes = t.bytes; rest = t.rest }) = rw s.is (word_is t.bytes t.rest s.bytes s.longest s.some) in
         told ∙ ap (λ k. Some (record { kind = k; bytes = t.bytes; rest = t.rest })) (sym s.kind)

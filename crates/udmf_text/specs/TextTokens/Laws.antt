@@ -1,6 +1,6 @@
 -- What stands between tokens, as a grammar: without states, and without an order in which the bytes are read.
 use Rattle.std.specs.Prelude.{◌≡◌, ◌≤◌, ◌↔◌, ℕ, ◌==◌, nat_le, Bool, false, ◌&&◌, ◌||◌, List, [], ◌∷◌, ◌++◌, Ok, Err}
-use Rattle.udmf_text.specs.TextTokens.Between.{begins_with, left_behind}
+use Rattle.udmf_text.specs.TextTokens.Between.{begins_with_byte, left_behind}
 
 -- some byte is a line feed
 abbrev pub has_line_feed : List ℕ → Bool
@@ -10,7 +10,7 @@ has_line_feed (c ∷ cs) = c == 10 || has_line_feed cs
 -- a star and a slash stand there, one behind the other
 abbrev pub has_close : List ℕ → Bool
 has_close [] = false
-has_close (c ∷ cs) = (c == 42 && begins_with 47 cs) || has_close cs
+has_close (c ∷ cs) = (c == 42 && begins_with_byte 47 cs) || has_close cs
 
 -- a text that is `rest` behind blanks and comments
 pub data IsBehindGap (rest : List ℕ) : List ℕ → Type 0 where
@@ -23,7 +23,7 @@ pub data IsBehindGap (rest : List ℕ) : List ℕ → Type 0 where
 -- a blank or a comment begins there
 abbrev pub begins_gap : List ℕ → Bool
 begins_gap [] = false
-begins_gap (c ∷ cs) = nat_le c 32 || (c == 47 && (begins_with 47 cs || begins_with 42 cs))
+begins_gap (c ∷ cs) = nat_le c 32 || (c == 47 && (begins_with_byte 47 cs || begins_with_byte 42 cs))
 
 -- a comment begins there that isn't closed
 abbrev pub IsUnclosed : List ℕ → Type 0

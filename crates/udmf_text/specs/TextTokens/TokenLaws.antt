@@ -1,7 +1,7 @@
 -- Strings and words, as a grammar.
 use Rattle.std.specs.Prelude.{◌≡◌, ◌≢◌, ◌↔◌, ℕ, Bool, true, false, List, [], ◌∷◌, ◌++◌, Some, ⊤}
 use Rattle.udmf_text.specs.declared.text_tokens.token.Kind.TheVariants as kind
-use Rattle.udmf_text.specs.TextTokens.Tokens.{TokenParts, ends_word, quoted_of, word_of}
+use Rattle.udmf_text.specs.TextTokens.Tokens.{TokenParts, ends_word, quoted_of, word_token_of}
 
 -- bytes as they may stand between quotes: none is a quote or a backslash, but one behind a backslash, which goes with it
 pub data IsQuoted : List ℕ → Type 0 where
@@ -37,4 +37,4 @@ pub record IsWord (text : List ℕ) (t : TokenParts) : Type 0 where
   pub longest : stops_word t.rest ≡ true
 
 abbrev pub WordsAreLongest : Type 0
-WordsAreLongest = (text : List ℕ) (t : TokenParts) → (word_of text ≡ Some t) ↔ IsWord text t
+WordsAreLongest = (text : List ℕ) (t : TokenParts) → (word_token_of text ≡ Some t) ↔ IsWord text t

@@ -3,7 +3,7 @@ use Rattle.std.specs.Prelude.{ℕ, ◌+◌, ◌-◌, ◌==◌, nat_le, Bool, fal
 use Rattle.udmf_text.specs.declared.text_tokens.token.Kind.{Kind}
 use Rattle.udmf_text.specs.declared.text_tokens.token.Kind.TheVariants as kind
 use Rattle.udmf_text.specs.declared.text_tokens.token.Taken.{Taken}
-use Rattle.udmf_text.specs.TextTokens.Between.{begins_with}
+use Rattle.udmf_text.specs.TextTokens.Between.{begins_with_byte}
 
 -- a token, its bytes, and what is left behind it
 pub record TokenParts : Type 0 where
@@ -11,8 +11,8 @@ pub record TokenParts : Type 0 where
   pub bytes : List ℕ
   pub rest : List ℕ
 
-abbrev pub parts_of : Taken → TokenParts
-parts_of t = record { kind = t.kind; bytes = t.bytes.now; rest = t.rest.now }
+abbrev pub token_parts : Taken → TokenParts
+token_parts t = record { kind = t.kind; bytes = t.bytes.now; rest = t.rest.now }
 
 -- the bytes { } = ; " ( ) '
 abbrev pub is_apart : ℕ → Bool
@@ -20,7 +20,7 @@ is_apart c = c == 123 || c == 125 || c == 61 || c == 59 || c == 34 || c == 40 ||
 
 -- a word ends before a byte, behind which these stand: a blank, one of those, or the slash that opens a comment
 abbrev pub ends_word : ℕ → List ℕ → Bool
-ends_word c cs = nat_le c 32 || is_apart c || (c == 47 && (begins_with 47 cs || begins_with 42 cs))
+ends_word c cs = nat_le c 32 || is_apart c || (c == 47 && (begins_with_byte 47 cs || begins_with_byte 42 cs))
 
 abbrev pub word_len : List ℕ → ℕ
 word_len [] = 0
@@ -40,8 +40,8 @@ string_of more rest = record { kind = kind.Quoted; bytes = take (length more - l
 abbrev pub quoted_of : List ℕ → Option TokenParts
 quoted_of more = option_map (string_of more) (behind_quote false more)
 
-abbrev pub word_of : List ℕ → Option TokenParts
-word_of text = if word_len text == 0 then None else Some (record { kind = kind.Word; bytes = take (word_len text) text; rest = drop (word_len text) text })
+abbrev pub word_token_of : List ℕ → Option TokenParts
+word_token_of text = if word_len text == 0 then None else Some (record { kind = kind.Word; bytes = take (word_len text) text; rest = drop (word_len text) text })
 
 -- the token that begins with the first byte of a text; None where none does
 abbrev pub token_of : List ℕ → Option TokenParts
@@ -52,4 +52,4 @@ token_of (c ∷ cs) =
     else (if c == 61 then Some (mark_of kind.Is cs)
     else (if c == 59 then Some (mark_of kind.End cs)
     else (if c == 34 then quoted_of cs
-    else word_of (c ∷ cs)))))
+    else word_token_of (c ∷ cs)))))

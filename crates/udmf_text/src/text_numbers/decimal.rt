@@ -1,7 +1,7 @@
 //! Numbers with a point or an exponent.
 
 ghost use Rattle.std.specs.Prelude.{◌≡◌, ◌<◌, ◌≤◌, ◌^◌, ◌-◌, IfSome, length, neg_ℤ, pos, ◌≤ℤ◌, ◌<ℤ◌};
-ghost use Rattle.udmf_text.specs.TextNumbers.Decimal.{minus as minus_of, run_value, run_rest, exponent_of, scaled, pointed_of, behind_digits, unsigned_decimal, decimal_of};
+ghost use Rattle.udmf_text.specs.TextNumbers.Decimal.{negated_decimal as minus_of, run_value, run_rest, exponent_of, scaled_by_exponent, pointed_of, behind_digits, unsigned_decimal, decimal_of};
 
 use crate::text_numbers::digits::{digit, digits_in};
 use crate::text_numbers::whole::{negative, positive};
@@ -61,7 +61,7 @@ fn exponent(word: &[u8]) -> Option<i128>
 fn with_exponent(pointed: bool, mantissa: u128, behind: usize, rest: &[u8]) -> Option<Decimal>
     requires short { length rest.now ≤ 30 }
     requires few { behind ≤ 30 }
-    ensures { result ≡ scaled pointed mantissa behind rest.now }
+    ensures { result ≡ scaled_by_exponent pointed mantissa behind rest.now }
 {
     match rest {
         [] => {

@@ -1,7 +1,7 @@
 //! Blanks and comments.
 
 ghost use Rattle.std.specs.Prelude.{◌≡◌, ◌≤◌, IfOk, IfErr, length};
-ghost use Rattle.udmf_text.specs.TextTokens.Between.{step_of, is_closed as is_closed_lem, begins_with as begins_with_lem, left_behind, left_of, GivesExactly};
+ghost use Rattle.udmf_text.specs.TextTokens.Between.{step_of, is_gap_closed as is_closed_lem, begins_with_byte as begins_with_lem, left_behind, left_behind_gap, GivesTokensExactly};
 
 /// Where one stands between tokens.
 #[derive(Clone, Copy, PartialEq, Eq)]
@@ -79,7 +79,7 @@ fn is_closed(gap: Gap) -> bool
 
 /// What is left behind all blanks and comments at the front; or, where a comment isn't closed, the text from it on.
 pub fn behind_gap(text: &[u8]) -> Result<&[u8], &[u8]>
-    ensures left { GivesExactly (λ rest. rest.now) (λ opened. opened.now) result (left_behind text.now) }
+    ensures left { GivesTokensExactly (λ rest. rest.now) (λ opened. opened.now) result (left_behind text.now) }
     ensures within { IfOk result (λ rest. length rest.now ≤ length text.now) }
     ensures opened_within { IfErr result (λ opened. length opened.now ≤ length text.now) }
 {

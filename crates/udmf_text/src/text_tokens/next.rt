@@ -1,8 +1,8 @@
 //! The tokens of a text, one after the other.
 
 ghost use Rattle.std.specs.Prelude.{◌<◌, ◌≤◌, IfErr, IfOk, IfSome, length, option_map};
-ghost use Rattle.udmf_text.specs.TextTokens.Between.{GivesExactly};
-ghost use Rattle.udmf_text.specs.TextTokens.Text.{next_of, placed_of};
+ghost use Rattle.udmf_text.specs.TextTokens.Between.{GivesTokensExactly};
+ghost use Rattle.udmf_text.specs.TextTokens.Text.{first_token_of, placed_of};
 
 use crate::text_tokens::between::behind_gap;
 use crate::text_tokens::token::{Taken, take_token};
@@ -16,7 +16,7 @@ pub struct Placed<'a> {
 
 /// The first token of a text, None where there is none; or how many bytes there are from the first fault on.
 pub fn next_token(text: &[u8]) -> Result<Option<Placed<'_>>, usize>
-    ensures found { GivesExactly (option_map placed_of) (λ left. left) result (next_of text.now) }
+    ensures found { GivesTokensExactly (option_map placed_of) (λ left. left) result (first_token_of text.now) }
     ensures shorter { IfOk result (λ found. IfSome found (λ p. length p.token.rest.now < length text.now)) }
     ensures left { IfOk result (λ found. IfSome found (λ p. p.left ≤ length text.now)) }
     ensures fault { IfErr result (λ left. left ≤ length text.now) }

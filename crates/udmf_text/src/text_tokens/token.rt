@@ -1,7 +1,7 @@
 //! One token.
 
 ghost use Rattle.std.specs.Prelude.{◌≡◌, ◌≤◌, ◌<◌, IfSome, length, option_map, false};
-ghost use Rattle.udmf_text.specs.TextTokens.Tokens.{ends_word as ends_word_lem, word_len as word_len_lem, behind_quote as behind_quote_lem, is_apart as is_apart_lem, token_of, quoted_of, word_of, mark_of, parts_of};
+ghost use Rattle.udmf_text.specs.TextTokens.Tokens.{ends_word as ends_word_lem, word_len as word_len_lem, behind_quote as behind_quote_lem, is_apart as is_apart_lem, token_of, quoted_of, word_token_of, mark_of, token_parts};
 
 use crate::text_tokens::between::begins_with;
 
@@ -82,7 +82,7 @@ fn behind_quote(text: &[u8]) -> Option<&[u8]>
 
 /// The token at the front of a text that begins with one, and what is left behind it; None where none begins there.
 pub fn take_token(text: &[u8]) -> Option<Taken<'_>>
-    ensures token { option_map parts_of result ≡ token_of text.now }
+    ensures token { option_map token_parts result ≡ token_of text.now }
     ensures shorter { IfSome result (λ t. length t.rest.now < length text.now) }
 {
     let [byte, more @ ..] = text else {
@@ -108,7 +108,7 @@ pub fn take_token(text: &[u8]) -> Option<Taken<'_>>
 
 /// A token of one byte.
 fn mark<'a>(kind: Kind, text: &'a [u8], more: &'a [u8]) -> Taken<'a>
-    ensures { parts_of result ≡ mark_of kind more.now }
+    ensures { token_parts result ≡ mark_of kind more.now }
 {
     let (bytes, _) = text.split_at(0);
     Taken {
@@ -120,7 +120,7 @@ fn mark<'a>(kind: Kind, text: &'a [u8], more: &'a [u8]) -> Taken<'a>
 
 /// The string behind whose opening quote these bytes stand.
 fn quoted(more: &[u8]) -> Option<Taken<'_>>
-    ensures token { option_map parts_of result ≡ quoted_of more.now }
+    ensures token { option_map token_parts result ≡ quoted_of more.now }
     ensures shorter { IfSome result (λ t. length t.rest.now < length more.now) }
 {
     let rest = behind_quote(more)?;
@@ -134,7 +134,7 @@ fn quoted(more: &[u8]) -> Option<Taken<'_>>
 
 /// The word at the front; None where none begins there.
 fn word(text: &[u8]) -> Option<Taken<'_>>
-    ensures token { option_map parts_of result ≡ word_of text.now }
+    ensures token { option_map token_parts result ≡ word_token_of text.now }
     ensures shorter { IfSome result (λ t. length t.rest.now < length text.now) }
 {
     let len = word_len(text);

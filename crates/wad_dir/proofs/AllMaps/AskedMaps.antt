@@ -9,8 +9,8 @@ use Rattle.wad_dir.specs.Map.{has_name, key_of, last_from, same_name, spot_of}
 use Rattle.wad_dir.proofs.Moved.{spot_alike}
 use Rattle.wad_dir.proofs.Spots.{spot_parts}
 use Rattle.wad_dir.specs.AllMaps.All.{HasInOrder}
-use Rattle.wad_dir.specs.AllMaps.Asked.{EachAskedIsThere, asked_maps_of, fault_of, first_fault}
-use Rattle.wad_dir.specs.AllMaps.Maps.{is_map, is_map_name, maps_among, maps_of, told}
+use Rattle.wad_dir.specs.AllMaps.Asked.{EachAskedIsThere, asked_maps_of, fault_of_name, first_fault}
+use Rattle.wad_dir.specs.AllMaps.Maps.{is_map, is_map_name, maps_among, maps_in_names, told}
 use Rattle.wad_dir.proofs.AllMaps.FoundMaps.{map_found, self_same}
 use Rattle.wad_dir.proofs.AllMaps.InOrder.{all_in_order, kept_in_order}
 use Rattle.wad_dir.proofs.AllMaps.Spacing.{named_alike}
@@ -31,8 +31,8 @@ by_fault o maps = elim o [ None ↦ Ok maps | Some why ↦ Err why ]
 same_maps : (xs ys : List (List ℕ)) → ◌≡◌ {A = Result (List (List ℕ)) MapFault} (Ok xs) (Ok ys) → xs ≡ ys
 same_maps xs ys e = cc
 
-pub asked_in_order : (names : List (List ℕ)) (only : Option (List (List ℕ))) (maps : List (List ℕ)) → asked_maps_of names only ≡ Ok maps → HasInOrder (maps_of names) maps
-asked_in_order names None maps h = subst (HasInOrder (maps_of names)) (same_maps (maps_of names) maps h) (all_in_order (maps_of names))
+pub asked_in_order : (names : List (List ℕ)) (only : Option (List (List ℕ))) (maps : List (List ℕ)) → asked_maps_of names only ≡ Ok maps → HasInOrder (maps_in_names names) maps
+asked_in_order names None maps h = subst (HasInOrder (maps_in_names names)) (same_maps (maps_in_names names) maps h) (all_in_order (maps_in_names names))
 asked_in_order names (Some only) maps h = grind (arith, asked_among, by_fault, kept_in_order, same_maps)
 
 -- ---- a name that finds a map
@@ -93,20 +93,20 @@ module _ (all only : List (List ℕ)) (name : List ℕ) (spot : MapSpot) (named 
 
 -- ---- no name is lost
 
-no_fault : (names only : List (List ℕ)) (name : List ℕ) → first_fault names only ≡ None → Contains only name → fault_of names name ≡ None
+no_fault : (names only : List (List ℕ)) (name : List ℕ) → first_fault names only ≡ None → Contains only name → fault_of_name names name ≡ None
 no_fault names [] name e c = absurd (contains_none name c)
-no_fault names (n ∷ ns) name e c = by (fault_of names n) refl e (contains_cons name n ns c) (λ q r. no_fault names ns name q r)
+no_fault names (n ∷ ns) name e c = by (fault_of_name names n) refl e (contains_cons name n ns c) (λ q r. no_fault names ns name q r)
   where
-    by : (o : Option MapFault) → fault_of names n ≡ o → ◌≡◌ {A = Option MapFault} (elim o [ None ↦ first_fault names ns | Some why ↦ Some why ]) None → (n ≡ name) ⊎ Contains ns name
-        → (first_fault names ns ≡ None → Contains ns name → fault_of names name ≡ None) → fault_of names name ≡ None
-    by None f q (inl s) later = ap (λ (x : List ℕ). fault_of names x) (sym s) ∙ f
+    by : (o : Option MapFault) → fault_of_name names n ≡ o → ◌≡◌ {A = Option MapFault} (elim o [ None ↦ first_fault names ns | Some why ↦ Some why ]) None → (n ≡ name) ⊎ Contains ns name
+        → (first_fault names ns ≡ None → Contains ns name → fault_of_name names name ≡ None) → fault_of_name names name ≡ None
+    by None f q (inl s) later = ap (λ (x : List ℕ). fault_of_name names x) (sym s) ∙ f
     by None f q (inr r) later = later q r
     by (Some why) f q d later = absurd cc
 
-found_by : (names : List (List ℕ)) (name : List ℕ) → fault_of names name ≡ None → (is_map_name name ≡ true) × ((spot : MapSpot) × (spot_of names name ≡ Ok spot))
+found_by : (names : List (List ℕ)) (name : List ℕ) → fault_of_name names name ≡ None → (is_map_name name ≡ true) × ((spot : MapSpot) × (spot_of names name ≡ Ok spot))
 found_by names name e = grind arith
 
-is_there : (names only : List (List ℕ)) (name : List ℕ) → first_fault names only ≡ None → Contains only name → has_name name (asked_among only (maps_of names)) ≡ true
+is_there : (names only : List (List ℕ)) (name : List ℕ) → first_fault names only ≡ None → Contains only name → has_name name (asked_among only (maps_in_names names)) ≡ true
 is_there names only name e c =
     let f = found_by names name (no_fault names only name e c) in
     stays names only name f.1.0 f.0 f.1.1 (has_itself only name c) names (named_there names name f.1.0 f.1.1)
@@ -114,6 +114,6 @@ is_there names only name e c =
 pub each_asked_is_there : EachAskedIsThere
 each_asked_is_there names only maps h = by (first_fault names only) refl h
   where
-    by : (o : Option MapFault) → first_fault names only ≡ o → by_fault o (asked_among only (maps_of names)) ≡ Ok maps → AllByRecursion (λ (name : List ℕ). has_name name maps ≡ true) only
-    by None e q = all_of (λ (name : List ℕ). has_name name maps ≡ true) only (λ name c. subst (λ (ms : List (List ℕ)). has_name name ms ≡ true) (same_maps (asked_among only (maps_of names)) maps q) (is_there names only name e c))
+    by : (o : Option MapFault) → first_fault names only ≡ o → by_fault o (asked_among only (maps_in_names names)) ≡ Ok maps → AllByRecursion (λ (name : List ℕ). has_name name maps ≡ true) only
+    by None e q = all_of (λ (name : List ℕ). has_name name maps ≡ true) only (λ name c. subst (λ (ms : List (List ℕ)). has_name name ms ≡ true) (same_maps (asked_among only (maps_in_names names)) maps q) (is_there names only name e c))
     by (Some why) e q = absurd cc

@@ -3,7 +3,7 @@ use Rattle.std.proofs.Common.{ℕ, inl, inr, List, [], ◌∷◌, filter, Bool, 
 use Rattle.std.specs.List.{All, AllByRecursion}
 use Rattle.std.proofs.lemmas.List.Elements.{All-from_recursion, recursion_from_All}
 use Rattle.wad_dir.specs.AllMaps.All.{HasInOrder}
-use Rattle.wad_dir.specs.AllMaps.Maps.{is_map_name, maps_of}
+use Rattle.wad_dir.specs.AllMaps.Maps.{is_map_name, maps_in_names}
 use Rattle.wad_dir.proofs.AllMaps.Spacing.{maps_named}
 
 -- one name more that isn't among them
@@ -44,7 +44,7 @@ holds_in_order P (m ∷ ms) (n ∷ ns) (inl h) k = (subst P (sym h.0) k.0, holds
 holds_in_order P (m ∷ ms) (n ∷ ns) (inr h) k = holds_in_order P ms (n ∷ ns) h k.1
 
 -- some names of maps are names that a map can have
-pub named_in_order : (names maps : List (List ℕ)) → HasInOrder (maps_of names) maps → All (λ (name : List ℕ). IsTrue (is_map_name name)) maps
+pub named_in_order : (names maps : List (List ℕ)) → HasInOrder (maps_in_names names) maps → All (λ (name : List ℕ). IsTrue (is_map_name name)) maps
 named_in_order names maps h =
     All-from_recursion (λ (name : List ℕ). IsTrue (is_map_name name)) maps
-    (holds_in_order (λ (name : List ℕ). IsTrue (is_map_name name)) (maps_of names) maps h (recursion_from_All (λ (name : List ℕ). IsTrue (is_map_name name)) (maps_of names) (maps_named names)))
+    (holds_in_order (λ (name : List ℕ). IsTrue (is_map_name name)) (maps_in_names names) maps h (recursion_from_All (λ (name : List ℕ). IsTrue (is_map_name name)) (maps_in_names names) (maps_named names)))

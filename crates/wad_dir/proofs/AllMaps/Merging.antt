@@ -9,13 +9,13 @@ use Rattle.wad_dir.specs.declared.parts.MapSpot.{MapSpot}
 use Rattle.wad_dir.specs.Map.{is_run_name, shifted, spot_of}
 use Rattle.wad_dir.specs.Kept.{reject_then}
 use Rattle.wad_dir.specs.Print.{lumps_with_reject, with_reject}
-use Rattle.wad_dir.specs.Wad.{WadFile, WadLump, names_of}
+use Rattle.wad_dir.specs.Wad.{WadFile, WadLump, names_of_lumps}
 use Rattle.wad_dir.proofs.Inserted.{padded}
 use Rattle.wad_dir.proofs.Moved.{further, spot_by_parts, spot_moved}
 use Rattle.wad_dir.specs.declared.all_maps.parts.Change.{Change}
 use Rattle.wad_dir.specs.AllMaps.All.{EachChangeIsMade, HasInOrder, IsAll, names_changed, with_all, with_change}
-use Rattle.wad_dir.specs.AllMaps.Maps.{maps_of}
-use Rattle.wad_dir.specs.AllMaps.Spliced.{AreSpaced, IsBehind, piece, place_behind, spliced}
+use Rattle.wad_dir.specs.AllMaps.Maps.{maps_in_names}
+use Rattle.wad_dir.specs.AllMaps.Spliced.{AreSpaced, IsChangeBehind, piece, place_behind_reject, spliced}
 use Rattle.wad_dir.proofs.AllMaps.Pieces.{change_len, change_made, change_names, names_then, shift_of, spliced_more, then_behind}
 use Rattle.wad_dir.proofs.AllMaps.Spacing.{are_spaced, no_reject}
 
@@ -53,7 +53,7 @@ further_start names (c ∷ cs) = (λ spot e. e ∙ ap (λ (x : MapSpot). Ok x) (
 further_put : (first names : List (List ℕ)) (len k i done : ℕ) (cs : List Change) → i ≤ k + done → AreSpaced first len done cs → AreFurther first names k cs → AreFurther first (insert names i padded) (1 + k) cs
 further_put first names len k i done [] le spaced h = tt
 further_put first names len k i done (c ∷ cs) le spaced h =
-    let b : IsBehind first len done c = spaced.0 in
+    let b : IsChangeBehind first len done c = spaced.0 in
     let begins = b.begins in
     let inside = b.inside in
     let later = then_behind b.spot in (
@@ -61,11 +61,11 @@ further_put first names len k i done (c ∷ cs) le spaced h =
           let same : b.spot ≡ spot = ok_is_same b.spot spot (sym b.found ∙ e) in
           let at : done ≤ spot.marker = subst (λ (x : MapSpot). done ≤ x.marker) same begins in
           spot_moved names i c.name padded (further k spot) (no_reject c.name b.other) (omega (arith, le, at)) (h.0 spot e) ∙ ap (λ (x : MapSpot). Ok x) (further_sum k spot),
-      further_put first names len k i (place_behind b.spot) cs (omega (arith, le, begins, inside, later)) spaced.1 h.1,
+      further_put first names len k i (place_behind_reject b.spot) cs (omega (arith, le, begins, inside, later)) spaced.1 h.1,
     )
 
 -- behind one change
-further_next : (first names : List (List ℕ)) (len k : ℕ) (spot : MapSpot) (cs : List Change) → AreSpaced first len (place_behind spot) cs → AreFurther first names k cs → AreFurther first (names_then names spot.sectors spot.reject k) (shift_of spot.reject k) cs
+further_next : (first names : List (List ℕ)) (len k : ℕ) (spot : MapSpot) (cs : List Change) → AreSpaced first len (place_behind_reject spot) cs → AreFurther first names k cs → AreFurther first (names_then names spot.sectors spot.reject k) (shift_of spot.reject k) cs
 further_next first names len k spot cs spaced h = by spot.reject spaced
   where
     by : (o : Option ℕ) → AreSpaced first len (elim o [ Some r ↦ r + 1 | None ↦ spot.sectors + 1 ]) cs → AreFurther first (names_then names spot.sectors o k) (shift_of o k) cs
@@ -88,20 +88,20 @@ pub record IsStep (kind : Kind) (lumps front : List WadLump) (k done : ℕ) (c :
   pub inside : spot.marker < reject_then spot
   pub other : is_run_name c.name ≡ false
   pub found : spot_of (lump_names (front ++ drop done lumps)) c.name ≡ Ok (further k spot)
-  pub put : with_reject (file kind (front ++ drop done lumps)) (further k spot) c.table ≡ file kind ((front ++ piece lumps done spot c.table) ++ drop (place_behind spot) lumps)
-  pub spaced : AreSpaced (lump_names lumps) (length lumps) (place_behind spot) cs
-  pub len : length (front ++ piece lumps done spot c.table) ≡ shift_of spot.reject k + place_behind spot
-  pub later : AreFurther (lump_names lumps) (lump_names ((front ++ piece lumps done spot c.table) ++ drop (place_behind spot) lumps)) (shift_of spot.reject k) cs
+  pub put : with_reject (file kind (front ++ drop done lumps)) (further k spot) c.table ≡ file kind ((front ++ piece lumps done spot c.table) ++ drop (place_behind_reject spot) lumps)
+  pub spaced : AreSpaced (lump_names lumps) (length lumps) (place_behind_reject spot) cs
+  pub len : length (front ++ piece lumps done spot c.table) ≡ shift_of spot.reject k + place_behind_reject spot
+  pub later : AreFurther (lump_names lumps) (lump_names ((front ++ piece lumps done spot c.table) ++ drop (place_behind_reject spot) lumps)) (shift_of spot.reject k) cs
 
 pub step_of : (kind : Kind) (lumps front : List WadLump) (k done : ℕ) (c : Change) (cs : List Change) → AreSpaced (lump_names lumps) (length lumps) done (c ∷ cs) → length front ≡ k + done → AreFurther (lump_names lumps) (lump_names (front ++ drop done lumps)) k (c ∷ cs) → IsStep kind lumps front k done c cs
 step_of kind lumps front k done c cs spaced len h =
-    let b : IsBehind (lump_names lumps) (length lumps) done c = spaced.0 in
+    let b : IsChangeBehind (lump_names lumps) (length lumps) done c = spaced.0 in
     let spot : MapSpot = b.spot in
     let begins : done ≤ b.spot.marker = b.begins in
     let inside : b.spot.marker < reject_then b.spot = b.inside in
     let within : done ≤ reject_then b.spot = omega (arith, begins, inside) in
-    let lumps_are : lumps_with_reject (front ++ drop done lumps) (further k spot) c.table ≡ (front ++ piece lumps done spot c.table) ++ drop (place_behind spot) lumps = change_made front lumps k done spot c.table len within b.ends in
-    let names_are : names_then (lump_names (front ++ drop done lumps)) spot.sectors spot.reject k ≡ lump_names ((front ++ piece lumps done spot c.table) ++ drop (place_behind spot) lumps) = sym (change_names (front ++ drop done lumps) k spot c.table) ∙ ap (λ (zs : List WadLump). lump_names zs) lumps_are in
+    let lumps_are : lumps_with_reject (front ++ drop done lumps) (further k spot) c.table ≡ (front ++ piece lumps done spot c.table) ++ drop (place_behind_reject spot) lumps = change_made front lumps k done spot c.table len within b.ends in
+    let names_are : names_then (lump_names (front ++ drop done lumps)) spot.sectors spot.reject k ≡ lump_names ((front ++ piece lumps done spot c.table) ++ drop (place_behind_reject spot) lumps) = sym (change_names (front ++ drop done lumps) k spot c.table) ∙ ap (λ (zs : List WadLump). lump_names zs) lumps_are in
     record {
       spot = spot;
       first = b.found;
@@ -115,7 +115,7 @@ step_of kind lumps front k done c cs spaced len h =
       later = subst (λ (ns : List (List ℕ)). AreFurther (lump_names lumps) ns (shift_of spot.reject k) cs) names_are (further_next (lump_names lumps) (lump_names (front ++ drop done lumps)) (length lumps) k spot cs spaced.1 h.1);
     }
 
-pub changed_at : (w : WadFile) (c : Change) (spot : MapSpot) → spot_of (names_of w) c.name ≡ Ok spot → with_change w c ≡ with_reject w spot c.table
+pub changed_at : (w : WadFile) (c : Change) (spot : MapSpot) → spot_of (names_of_lumps w) c.name ≡ Ok spot → with_change w c ≡ with_reject w spot c.table
 changed_at w c spot found = ap (λ (r : Result MapSpot MapFault). elim r [ Ok s ↦ with_reject w s c.table | Err f ↦ w ]) found
 
 record IsMerged (kind : Kind) (lumps front : List WadLump) (done : ℕ) (cs : List Change) : Type 0 where
@@ -128,22 +128,22 @@ merged kind lumps front k done (c ∷ cs) spaced len h =
     let s : IsStep kind lumps front k done c cs = step_of kind lumps front k done c cs spaced len h in
     let old : WadFile = file kind (front ++ drop done lumps) in
     let next : List WadLump = front ++ piece lumps done s.spot c.table in
-    let rest : IsMerged kind lumps next (place_behind s.spot) cs = merged kind lumps next (shift_of s.spot.reject k) (place_behind s.spot) cs s.spaced s.len s.later in
+    let rest : IsMerged kind lumps next (place_behind_reject s.spot) cs = merged kind lumps next (shift_of s.spot.reject k) (place_behind_reject s.spot) cs s.spaced s.len s.later in
     let change : with_change old c ≡ with_reject old (further k s.spot) c.table = changed_at old c (further k s.spot) s.found in
-    let one_pass : next ++ spliced (lump_names lumps) lumps (place_behind s.spot) cs ≡ front ++ spliced (lump_names lumps) lumps done (c ∷ cs) = append_assoc front (piece lumps done s.spot c.table) (spliced (lump_names lumps) lumps (place_behind s.spot) cs) ∙ ap (λ (zs : List WadLump). front ++ zs) (sym (spliced_more (lump_names lumps) lumps done c cs s.spot s.first)) in
+    let one_pass : next ++ spliced (lump_names lumps) lumps (place_behind_reject s.spot) cs ≡ front ++ spliced (lump_names lumps) lumps done (c ∷ cs) = append_assoc front (piece lumps done s.spot c.table) (spliced (lump_names lumps) lumps (place_behind_reject s.spot) cs) ∙ ap (λ (zs : List WadLump). front ++ zs) (sym (spliced_more (lump_names lumps) lumps done c cs s.spot s.first)) in
     record {
       all = ap (λ (w : WadFile). with_all w cs) (change ∙ s.put) ∙ rest.all ∙ ap (λ (zs : List WadLump). file kind zs) one_pass;
       made = (further k s.spot, s.found, subst (λ (w : WadFile). IsAll (with_reject old (further k s.spot) c.table) cs (with_all w cs)) (sym change) (subst (λ (w : WadFile). IsAll w cs (with_all w cs)) (sym s.put) rest.made));
     }
 
-pub spaced_lumps : (w : WadFile) (cs : List Change) → HasInOrder (maps_of (names_of w)) (names_changed cs) → AreSpaced (names_of w) (length w.lumps) 0 cs
-spaced_lumps w cs among = subst (λ (n : ℕ). AreSpaced (names_of w) n 0 cs) (length-map w.lumps (λ (l : WadLump). l.name)) (are_spaced (names_of w) cs among)
+pub spaced_lumps : (w : WadFile) (cs : List Change) → HasInOrder (maps_in_names (names_of_lumps w)) (names_changed cs) → AreSpaced (names_of_lumps w) (length w.lumps) 0 cs
+spaced_lumps w cs among = subst (λ (n : ℕ). AreSpaced (names_of_lumps w) n 0 cs) (length-map w.lumps (λ (l : WadLump). l.name)) (are_spaced (names_of_lumps w) cs among)
 
-whole : (w : WadFile) (cs : List Change) → HasInOrder (maps_of (names_of w)) (names_changed cs) → IsMerged w.kind w.lumps [] 0 cs
-whole w cs among = merged w.kind w.lumps [] 0 0 cs (spaced_lumps w cs among) refl (further_start (names_of w) cs)
+whole : (w : WadFile) (cs : List Change) → HasInOrder (maps_in_names (names_of_lumps w)) (names_changed cs) → IsMerged w.kind w.lumps [] 0 cs
+whole w cs among = merged w.kind w.lumps [] 0 0 cs (spaced_lumps w cs among) refl (further_start (names_of_lumps w) cs)
 
 -- the WAD with all changes has the lumps that one pass puts together
-pub all_spliced : (w : WadFile) (cs : List Change) → HasInOrder (maps_of (names_of w)) (names_changed cs) → with_all w cs ≡ record { kind = w.kind; lumps = spliced (names_of w) w.lumps 0 cs }
+pub all_spliced : (w : WadFile) (cs : List Change) → HasInOrder (maps_in_names (names_of_lumps w)) (names_changed cs) → with_all w cs ≡ record { kind = w.kind; lumps = spliced (names_of_lumps w) w.lumps 0 cs }
 all_spliced w cs among = (whole w cs among).all
 
 pub each_change_is_made : EachChangeIsMade

@@ -15,7 +15,7 @@ use Rattle.wad_dir.proofs.Inserted.{padded}
 use Rattle.wad_dir.proofs.Moved.{further}
 use Rattle.wad_dir.proofs.Rewritten.{map_insert}
 use Rattle.wad_dir.specs.declared.all_maps.parts.Change.{Change}
-use Rattle.wad_dir.specs.AllMaps.Spliced.{piece, place_behind, reject_of, spliced}
+use Rattle.wad_dir.specs.AllMaps.Spliced.{piece, place_behind_reject, reject_with, spliced}
 
 -- ---- lists
 
@@ -63,7 +63,7 @@ then_of c o = elim o [ Some r ↦ r | None ↦ c + 1 ]
 abbrev behind_of : ℕ → Option ℕ → ℕ
 behind_of c o = elim o [ Some r ↦ r + 1 | None ↦ c + 1 ]
 
-pub then_behind : (spot : MapSpot) → reject_then spot ≤ place_behind spot
+pub then_behind : (spot : MapSpot) → reject_then spot ≤ place_behind_reject spot
 then_behind spot = by spot.reject
   where
     by : (o : Option ℕ) → then_of spot.sectors o ≤ behind_of spot.sectors o
@@ -74,8 +74,8 @@ front_len : {X : Type 0} (ps xs : List X) (k a r : ℕ) → length ps ≡ k + a 
 front_len ps xs k a r len le within = let h = length-append ps (slice_range xs a r) in let b = length-between xs a r within in omega (arith, h, b, len, le)
 
 -- the lumps with the change made: those before the REJECT, the REJECT, and the others
-pub change_made : (ps lumps : List WadLump) (k a : ℕ) (spot : MapSpot) (table : List ℕ) → length ps ≡ k + a → a ≤ reject_then spot → place_behind spot ≤ length lumps
-    → lumps_with_reject (ps ++ drop a lumps) (further k spot) table ≡ (ps ++ piece lumps a spot table) ++ drop (place_behind spot) lumps
+pub change_made : (ps lumps : List WadLump) (k a : ℕ) (spot : MapSpot) (table : List ℕ) → length ps ≡ k + a → a ≤ reject_then spot → place_behind_reject spot ≤ length lumps
+    → lumps_with_reject (ps ++ drop a lumps) (further k spot) table ≡ (ps ++ piece lumps a spot table) ++ drop (place_behind_reject spot) lumps
 change_made ps lumps k a spot table len = by spot.reject
   where
     by : (o : Option ℕ) → a ≤ then_of spot.sectors o → behind_of spot.sectors o ≤ length lumps
@@ -88,16 +88,16 @@ change_made ps lumps k a spot table len = by spot.reject
     by None le within = insert_behind ps lumps a (spot.sectors + 1) (k + spot.sectors + 1) (reject_lump table) le (let h = front_len ps lumps k a (spot.sectors + 1) len le within in omega (arith, h))
 
 -- how many lumps stand before the others
-pub change_len : (ps lumps : List WadLump) (k a : ℕ) (spot : MapSpot) (table : List ℕ) → length ps ≡ k + a → a ≤ reject_then spot → place_behind spot ≤ length lumps
-    → length (ps ++ piece lumps a spot table) ≡ shift_of spot.reject k + place_behind spot
+pub change_len : (ps lumps : List WadLump) (k a : ℕ) (spot : MapSpot) (table : List ℕ) → length ps ≡ k + a → a ≤ reject_then spot → place_behind_reject spot ≤ length lumps
+    → length (ps ++ piece lumps a spot table) ≡ shift_of spot.reject k + place_behind_reject spot
 change_len ps lumps k a spot table len le within = by_len ∙ by spot.reject
   where
     by_len : length (ps ++ piece lumps a spot table) ≡ k + reject_then spot + 1
     by_len =
         let b = then_behind spot in
         let h = front_len ps lumps k a (reject_then spot) len le (omega (arith, b, within)) in
-        let c = length_push (ps ++ slice_range lumps a (reject_then spot)) (reject_of lumps spot table) in
-        ap (λ (zs : List WadLump). length zs) (sym (append_assoc ps (slice_range lumps a (reject_then spot)) (reject_of lumps spot table ∷ []))) ∙ c ∙ ap (λ (i : ℕ). i + 1) h
+        let c = length_push (ps ++ slice_range lumps a (reject_then spot)) (reject_with lumps spot table) in
+        ap (λ (zs : List WadLump). length zs) (sym (append_assoc ps (slice_range lumps a (reject_then spot)) (reject_with lumps spot table ∷ []))) ∙ c ∙ ap (λ (i : ℕ). i + 1) h
 
     by : (o : Option ℕ) → k + then_of spot.sectors o + 1 ≡ shift_of o k + behind_of spot.sectors o
     by (Some r) = omega arith
@@ -111,6 +111,6 @@ pub change_names : (lumps : List WadLump) (k : ℕ) (spot : MapSpot) (table : Li
 change_names lumps k spot table = grind (arith, map-set_same, map_insert)
 
 -- one pass, one change more
-pub spliced_more : (names : List (List ℕ)) (lumps : List WadLump) (done : ℕ) (c : Change) (cs : List Change) (spot : MapSpot) → spot_of names c.name ≡ Ok spot → spliced names lumps done (c ∷ cs) ≡ piece lumps done spot c.table ++ spliced names lumps (place_behind spot) cs
+pub spliced_more : (names : List (List ℕ)) (lumps : List WadLump) (done : ℕ) (c : Change) (cs : List Change) (spot : MapSpot) → spot_of names c.name ≡ Ok spot → spliced names lumps done (c ∷ cs) ≡ piece lumps done spot c.table ++ spliced names lumps (place_behind_reject spot) cs
 spliced_more names lumps done c cs spot e =
-    ap (λ (r : Result MapSpot MapFault). elim r [ Ok s ↦ piece lumps done s c.table ++ spliced names lumps (place_behind s) cs | Err f ↦ spliced names lumps done cs ]) e
+    ap (λ (r : Result MapSpot MapFault). elim r [ Ok s ↦ piece lumps done s c.table ++ spliced names lumps (place_behind_reject s) cs | Err f ↦ spliced names lumps done cs ]) e

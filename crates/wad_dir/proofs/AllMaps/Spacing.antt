@@ -11,14 +11,14 @@ use Rattle.sight_names.specs.declared.faults.MapFault.{MapFault}
 use Rattle.sight_names.specs.declared.names.MapFormat.{MapFormat}
 use Rattle.wad_dir.specs.declared.parts.MapSpot.{MapSpot}
 use Rattle.wad_dir.specs.Kept.{reject_then}
-use Rattle.wad_dir.specs.Map.{begins_with_textmap, has_name, is_run_name, key_of, name_of, run_names, same_name, spot_of}
+use Rattle.wad_dir.specs.Map.{begins_with_textmap, has_name, is_run_name, key_of, lump_name, run_names, same_name, spot_of}
 use Rattle.wad_dir.proofs.Inserted.{more, more_named, more_short, place_bound, word}
 use Rattle.wad_dir.proofs.Moved.{marker_named, spot_alike}
 use Rattle.wad_dir.proofs.Spots.{IsSpot, run_at, spot_at, spot_parts}
 use Rattle.wad_dir.specs.declared.all_maps.parts.Change.{Change}
 use Rattle.wad_dir.specs.AllMaps.All.{HasInOrder, names_changed}
-use Rattle.wad_dir.specs.AllMaps.Maps.{is_map, is_map_name, is_udmf, is_visible, maps_among, maps_of, markers_among, told, udmf_maps_of}
-use Rattle.wad_dir.specs.AllMaps.Spliced.{AreSpaced, place_behind}
+use Rattle.wad_dir.specs.AllMaps.Maps.{is_map, is_map_name, is_udmf, is_visible, maps_among, maps_in_names, markers_among, told, udmf_maps_of}
+use Rattle.wad_dir.specs.AllMaps.Spliced.{AreSpaced, place_behind_reject}
 use Rattle.wad_dir.proofs.AllMaps.FoundMaps.{all_more, begins_here, each_marker}
 use Rattle.wad_dir.proofs.AllMaps.TextRuns.{behind_text}
 use Rattle.wad_dir.proofs.AllMaps.Told.{key_told}
@@ -31,17 +31,17 @@ use Rattle.math_base.proofs.Numbers.{below_or_not, is_told_same, next_is}
 abbrev pub run_of : List (List ℕ) → ℕ → List (List ℕ)
 run_of ns m = run_at (drop (m + 1) ns)
 
-ends_at : (m l s v c len : ℕ) (r : Option ℕ) (text : Bool) (format : MapFormat) → c < len → ((k : ℕ) → r ≡ Some k → k < len) → (m < reject_then (spot_at m text format l s v c r)) × (place_behind (spot_at m text format l s v c r) ≤ m + 1 + len)
+ends_at : (m l s v c len : ℕ) (r : Option ℕ) (text : Bool) (format : MapFormat) → c < len → ((k : ℕ) → r ≡ Some k → k < len) → (m < reject_then (spot_at m text format l s v c r)) × (place_behind_reject (spot_at m text format l s v c r) ≤ m + 1 + len)
 ends_at m l s v c len None text format lt within = (omega (arith, lt), omega (arith, lt))
 ends_at m l s v c len (Some k) text format lt within = let b : k < len = within k refl in (omega (arith, b), omega (arith, b))
 
 -- the REJECT lies behind the marker and in the run, and so does the place behind SECTORS
-pub spot_ends : (ns : List (List ℕ)) (name : List ℕ) (spot : MapSpot) (p : IsSpot ns name spot) → (spot.marker < reject_then spot) × (place_behind spot ≤ p.marker + 1 + length (run_of ns p.marker))
+pub spot_ends : (ns : List (List ℕ)) (name : List ℕ) (spot : MapSpot) (p : IsSpot ns name spot) → (spot.marker < reject_then spot) × (place_behind_reject spot ≤ p.marker + 1 + length (run_of ns p.marker))
 spot_ends ns name spot p =
     let run : List (List ℕ) = run_of ns p.marker in
     let below : (x : List ℕ) (k : ℕ) → position_from (λ n. same_name n x) 0 run ≡ Some k → k < length run = (λ x k e. let h = place_bound (λ n. same_name n x) run 0 k e in omega (arith, h.1)) in
-    let ends = ends_at p.marker p.l p.s p.v p.c (length run) p.r p.text p.format (below (name_of (begins_with_textmap (drop (p.marker + 1) ns)) Sectors) p.c p.sectors) (λ k e. below word k (p.reject ∙ e)) in
-    subst (λ (y : MapSpot). (y.marker < reject_then y) × (place_behind y ≤ p.marker + 1 + length run)) (sym p.is) ends
+    let ends = ends_at p.marker p.l p.s p.v p.c (length run) p.r p.text p.format (below (lump_name (begins_with_textmap (drop (p.marker + 1) ns)) Sectors) p.c p.sectors) (λ k e. below word k (p.reject ∙ e)) in
+    subst (λ (y : MapSpot). (y.marker < reject_then y) × (place_behind_reject y ≤ p.marker + 1 + length run)) (sym p.is) ends
 
 run_fits : (ns : List (List ℕ)) (m : ℕ) → m < length ns → m + 1 + length (run_of ns m) ≤ length ns
 run_fits ns m lt = let a = more_short (begins_with_textmap (drop (m + 1) ns)) [] (drop (m + 1) ns) in let b = length-drop (m + 1) ns in omega (arith, a, b, lt)
@@ -124,7 +124,7 @@ record IsMapAt (ns : List (List ℕ)) (k : ℕ) (n name : List ℕ) : Type 0 whe
   found : spot_of ns name ≡ Ok spot
   marker : spot.marker ≡ k
   inside : spot.marker < reject_then spot
-  ends : place_behind spot ≤ k + 1 + length (run_of ns k)
+  ends : place_behind_reject spot ≤ k + 1 + length (run_of ns k)
   other : is_run_name name ≡ false
 
 map_at : (ns : List (List ℕ)) (k : ℕ) (n name : List ℕ) → slice_get ns k ≡ Some n → is_map ns n (drop (k + 1) ns) ≡ true → name ≡ told n → IsMapAt ns k n name
@@ -140,7 +140,7 @@ map_at ns k n name there is e =
       found = spot_alike ns name n key ∙ h.1;
       marker = marker;
       inside = ends.0;
-      ends = subst (λ (m : ℕ). place_behind h.0 ≤ m + 1 + length (run_of ns m)) same ends.1;
+      ends = subst (λ (m : ℕ). place_behind_reject h.0 ≤ m + 1 + length (run_of ns m)) same ends.1;
       other = lump_alike name n key ∙ no_lump_name n (map_named ns n (drop (k + 1) ns) is);
     }
 
@@ -171,12 +171,12 @@ spaced_from ns (n ∷ ms) k done cs e within sooner among =
         let begins : done ≤ m.spot.marker = sooner c.name m.spot (omega (arith, marker)) m.found m.other in
         let fits = run_fits ns k (slice_get_within ns k n there) in
         let ends = m.ends in
-        let place : place_behind m.spot ≤ length ns = omega (arith, fits, ends) in
-        let after : NoSooner ns (k + 1) (place_behind m.spot) = (λ name spot le found other.
+        let place : place_behind_reject m.spot ≤ length ns = omega (arith, fits, ends) in
+        let after : NoSooner ns (k + 1) (place_behind_reject m.spot) = (λ name spot le found other.
         let b = run_before ns c.name name m.spot spot m.found found other (omega (arith, le, marker)) in
         let e : m.spot.marker + 1 + length (run_of ns m.spot.marker) ≡ k + 1 + length (run_of ns k) = ap (λ (i : ℕ). i + 1 + length (run_of ns i)) marker in
         omega (arith, b, e, ends)) in
-        (record { spot = m.spot; found = m.found; begins = begins; inside = m.inside; ends = place; other = m.other }, more_of (place_behind m.spot) rest place after among)
+        (record { spot = m.spot; found = m.found; begins = begins; inside = m.inside; ends = place; other = m.other }, more_of (place_behind_reject m.spot) rest place after among)
 
     by : (t : Bool) (xs : List Change) → is_map ns n ms ≡ t → slice_get ns k ≡ Some n → ms ≡ drop (k + 1) ns → HasInOrder (if t then told n ∷ maps_among ns ms else maps_among ns ms) (names_changed xs)
         → ((d : ℕ) (ys : List Change) → d ≤ length ns → NoSooner ns (k + 1) d → HasInOrder (maps_among ns ms) (names_changed ys) → AreSpaced ns (length ns) d ys)
@@ -187,7 +187,7 @@ spaced_from ns (n ∷ ms) k done cs e within sooner among =
     by true (c ∷ rest) is there behind (inr h) more_of = more_of done (c ∷ rest) within later h
 
 -- where the names that are changed are some of the maps, in order, the maps lie one behind the other
-pub are_spaced : (ns : List (List ℕ)) (cs : List Change) → HasInOrder (maps_of ns) (names_changed cs) → AreSpaced ns (length ns) 0 cs
+pub are_spaced : (ns : List (List ℕ)) (cs : List Change) → HasInOrder (maps_in_names ns) (names_changed cs) → AreSpaced ns (length ns) 0 cs
 are_spaced ns cs among = spaced_from ns ns 0 0 cs refl (omega arith) (λ name spot le found other. omega arith) among
 
 -- ---- what is known of each map's name
@@ -204,18 +204,18 @@ each_found all ns k d lt = each_marker (is_map all) (λ (name : List ℕ). (is_m
         let h = map_there all n behind is in
         (named_alike (told n) n (key_told n) ∙ map_named all n behind is, ap (λ (r : Result MapSpot MapFault). is_ok r) (spot_alike all (told n) n (key_told n) ∙ h.1))
 
-maps_are : (ns : List (List ℕ)) (k : ℕ) (maps : List (List ℕ)) → length ns ≤ k → maps ++ maps_among ns (drop k ns) ≡ maps_of ns → maps ≡ maps_of ns
-maps_are ns k maps le h = all_more (is_map ns) ns k maps (maps_of ns) le h
+maps_are : (ns : List (List ℕ)) (k : ℕ) (maps : List (List ℕ)) → length ns ≤ k → maps ++ maps_among ns (drop k ns) ≡ maps_in_names ns → maps ≡ maps_in_names ns
+maps_are ns k maps le h = all_more (is_map ns) ns k maps (maps_in_names ns) le h
 
 -- each name can be a map's
-pub maps_named : (ns : List (List ℕ)) → All (λ (name : List ℕ). IsTrue (is_map_name name)) (maps_of ns)
+pub maps_named : (ns : List (List ℕ)) → All (λ (name : List ℕ). IsTrue (is_map_name name)) (maps_in_names ns)
 maps_named ns = λ i d lt. (each_found ns ns i d lt).0
 
-pub all_named : (ns : List (List ℕ)) (k : ℕ) (maps : List (List ℕ)) → length ns ≤ k → maps ++ maps_among ns (drop k ns) ≡ maps_of ns → All (λ (name : List ℕ). IsTrue (is_map_name name)) maps
+pub all_named : (ns : List (List ℕ)) (k : ℕ) (maps : List (List ℕ)) → length ns ≤ k → maps ++ maps_among ns (drop k ns) ≡ maps_in_names ns → All (λ (name : List ℕ). IsTrue (is_map_name name)) maps
 all_named ns k maps le h = subst (λ (xs : List (List ℕ)). All (λ (name : List ℕ). IsTrue (is_map_name name)) xs) (sym (maps_are ns k maps le h)) (maps_named ns)
 
 -- and finds a map
-pub all_found : (ns : List (List ℕ)) (k : ℕ) (maps : List (List ℕ)) → length ns ≤ k → maps ++ maps_among ns (drop k ns) ≡ maps_of ns → All (λ (name : List ℕ). IsOk (spot_of ns name)) maps
+pub all_found : (ns : List (List ℕ)) (k : ℕ) (maps : List (List ℕ)) → length ns ≤ k → maps ++ maps_among ns (drop k ns) ≡ maps_in_names ns → All (λ (name : List ℕ). IsOk (spot_of ns name)) maps
 all_found ns k maps le h = subst (λ (xs : List (List ℕ)). All (λ (name : List ℕ). IsOk (spot_of ns name)) xs) (sym (maps_are ns k maps le h)) (λ i d lt. (each_found ns ns i d lt).1)
 
 -- each name of a map of UDMF can be a map's

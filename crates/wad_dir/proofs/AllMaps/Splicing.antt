@@ -7,14 +7,14 @@ use Rattle.wad_dir.specs.declared.parts.MapSpot.{MapSpot}
 use Rattle.wad_dir.specs.declared.parts.Wad.{Wad}
 use Rattle.wad_dir.specs.Kept.{reject_then}
 use Rattle.wad_dir.specs.Map.{entry_names}
-use Rattle.wad_dir.specs.Wad.{WadLump, file_of, lump_under, names_of}
+use Rattle.wad_dir.specs.Wad.{WadLump, file_of, lump_under, names_of_lumps}
 use Rattle.wad_dir.proofs.Under.{names_read}
 use Rattle.wad_dir.specs.declared.wad_rewrite.lumps.OutputLump.{OutputLump}
 use Rattle.wad_dir.specs.WadRewrite.Lumps.{view, views}
 use Rattle.wad_dir.specs.declared.all_maps.parts.Change.{Change}
 use Rattle.wad_dir.specs.AllMaps.All.{HasInOrder, names_changed, with_all}
-use Rattle.wad_dir.specs.AllMaps.Maps.{maps_of}
-use Rattle.wad_dir.specs.AllMaps.Spliced.{AreSpaced, piece, reject_of, spliced}
+use Rattle.wad_dir.specs.AllMaps.Maps.{maps_in_names}
+use Rattle.wad_dir.specs.AllMaps.Spliced.{AreSpaced, piece, reject_with, spliced}
 use Rattle.wad_dir.proofs.AllMaps.Merging.{all_spliced, file, spaced_lumps}
 
 -- ---- one change
@@ -23,7 +23,7 @@ range_seen : (lumps : List OutputLump) (a b : ℕ) → views (slice_range lumps 
 range_seen lumps a b = sym (take-map view (b - a) (drop a lumps)) ∙ ap (λ (zs : List WadLump). take (b - a) zs) (sym (drop-map view a lumps))
 
 pub piece_seen : (out lumps cut new : List OutputLump) (done place : ℕ) (spot : MapSpot) (reject : OutputLump) (table : List ℕ)
-    → cut ≡ out ++ slice_range lumps done place → new ≡ cut ++ reject ∷ [] → place ≡ reject_then spot → view reject ≡ reject_of (views lumps) spot table → views new ≡ views out ++ piece (views lumps) done spot table
+    → cut ≡ out ++ slice_range lumps done place → new ≡ cut ++ reject ∷ [] → place ≡ reject_then spot → view reject ≡ reject_with (views lumps) spot table → views new ≡ views out ++ piece (views lumps) done spot table
 piece_seen out lumps cut new done place spot reject table e f at is =
     let range : views (slice_range lumps done place) ≡ slice_range (views lumps) done (reject_then spot) = range_seen lumps done place ∙ ap (λ (p : ℕ). slice_range (views lumps) done p) at in
     ap (λ (zs : List OutputLump). views zs) (f ∙ ap (λ (zs : List OutputLump). zs ++ reject ∷ []) e)
@@ -44,17 +44,17 @@ rest_seen names out lumps new done i cs total e le h =
 
 -- ---- all changes of a file
 
-module _ (bytes : List ℕ) (wad : Wad) (entries : List Entry) (lumps : List OutputLump) (cs : List Change) (same : entries ≡ wad.entries) (seen : views lumps ≡ map (lump_under bytes) entries) (among : HasInOrder (maps_of (entry_names wad.entries)) (names_changed cs)) where
-  names_are : names_of (file_of bytes wad) ≡ entry_names wad.entries
+module _ (bytes : List ℕ) (wad : Wad) (entries : List Entry) (lumps : List OutputLump) (cs : List Change) (same : entries ≡ wad.entries) (seen : views lumps ≡ map (lump_under bytes) entries) (among : HasInOrder (maps_in_names (entry_names wad.entries)) (names_changed cs)) where
+  names_are : names_of_lumps (file_of bytes wad) ≡ entry_names wad.entries
   names_are = names_read bytes (Ok wad)
 
-  among_names : HasInOrder (maps_of (names_of (file_of bytes wad))) (names_changed cs)
-  among_names = subst (λ (ns : List (List ℕ)). HasInOrder (maps_of ns) (names_changed cs)) (sym names_are) among
+  among_names : HasInOrder (maps_in_names (names_of_lumps (file_of bytes wad))) (names_changed cs)
+  among_names = subst (λ (ns : List (List ℕ)). HasInOrder (maps_in_names ns) (names_changed cs)) (sym names_are) among
 
   lumps_are : (file_of bytes wad).lumps ≡ views lumps
   lumps_are = ap (λ (es : List Entry). map (lump_under bytes) es) (sym same) ∙ sym seen
 
-  names_in : names_of (file_of bytes wad) ≡ entry_names entries
+  names_in : names_of_lumps (file_of bytes wad) ≡ entry_names entries
   names_in = names_are ∙ ap (λ (es : List Entry). entry_names es) (sym same)
 
   pub file_spaced : AreSpaced (entry_names entries) (length lumps) 0 cs

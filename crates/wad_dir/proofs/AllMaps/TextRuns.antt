@@ -7,7 +7,7 @@ use Rattle.std.proofs.lemmas.List.Folds.{list_any-append}
 use Rattle.std.proofs.lemmas.Slice.Eq.{bytes_eq-Decides}
 use Rattle.sight_names.specs.declared.faults.Lump.TheVariants.{Linedefs}
 use Rattle.wad_dir.specs.declared.parts.MapSpot.{MapSpot}
-use Rattle.wad_dir.specs.Map.{begins_with, begins_with_textmap, belongs, ends_text, has_name, is_run_name, key_of, name_of, run_names, same_name, stands_once, text_ends}
+use Rattle.wad_dir.specs.Map.{begins_with_name, begins_with_textmap, belongs, ends_text_map, has_name, is_run_name, key_of, lump_name, run_names, same_name, stands_once, text_ends}
 use Rattle.wad_dir.proofs.Inserted.{more, more_goes_on, more_named, place_bound}
 use Rattle.wad_dir.proofs.Spots.{IsSpot, is_cut, place}
 use Rattle.math_base.proofs.Bools.{false_where_not_true, not_both_values, second_true}
@@ -31,14 +31,14 @@ two_names n a b other s t =
     let same : bytes_eq (key_of a) (key_of b) ≡ true = (bytes_eq-Decides (key_of a) (key_of b)).1 (sym ((bytes_eq-Decides (key_of n) (key_of a)).0 s) ∙ (bytes_eq-Decides (key_of n) (key_of b)).0 t) in
     not_both_values (bytes_eq (key_of a) (key_of b)) same other
 
-linedefs_end : (n : List ℕ) → same_name n (codes "LINEDEFS") ≡ true → ends_text n ≡ true
+linedefs_end : (n : List ℕ) → same_name n (codes "LINEDEFS") ≡ true → ends_text_map n ≡ true
 linedefs_end n e = subst (λ (key : List ℕ). list_any (λ m. bytes_eq key (key_of m)) text_ends ≡ true) (sym ((bytes_eq-Decides (key_of n) (codes "LINEDEFS")).0 e)) refl
 
 endmap_is_none : (n : List ℕ) → same_name n endmap ≡ true → is_run_name n ≡ false
 endmap_is_none n e = subst (λ (key : List ℕ). list_any (λ m. bytes_eq key (key_of m)) run_names ≡ false) (sym ((bytes_eq-Decides (key_of n) endmap).0 e)) refl
 
 -- the first of what is left is the name
-head_there : (ns : List (List ℕ)) (k : ℕ) (name : List ℕ) → begins_with name (drop k ns) ≡ true → same_name (at ns k) name ≡ true
+head_there : (ns : List (List ℕ)) (k : ℕ) (name : List ℕ) → begins_with_name name (drop k ns) ≡ true → same_name (at ns k) name ≡ true
 head_there [] zero name h = absurd (not_both_values false h refl)
 head_there [] (suc k) name h = absurd (not_both_values false h refl)
 head_there (n ∷ ns) zero name h = h
@@ -76,7 +76,7 @@ more_once before (n ∷ ns) j seen lt = by (belongs true n before) refl j lt (λ
     later = list_any-append (λ m. same_name m textmap) before (n ∷ []) ∙ ap (λ (b : Bool). b || has_name textmap (n ∷ [])) seen
 
     other : belongs true n before ≡ true → same_name n textmap ≡ false
-    other is = false_where_not_true (same_name n textmap) (λ t. twice t (second_true (not (ends_text n)) (not (stands_once n && has_name n before)) is))
+    other is = false_where_not_true (same_name n textmap) (λ t. twice t (second_true (not (ends_text_map n)) (not (stands_once n && has_name n before)) is))
       where
         twice : same_name n textmap ≡ true → not (stands_once n && has_name n before) ≡ true → ⊥
         twice t e =
@@ -107,7 +107,7 @@ first_once (n ∷ ns) j first lt = by (belongs true n []) lt
 
 -- so many entries behind a marker, and the end behind them
 record IsTextRun (ns : List (List ℕ)) (m len : ℕ) : Type 0 where
-  goes_on : (k : ℕ) → m < k → k < m + 1 + len → not (ends_text (at ns k)) ≡ true
+  goes_on : (k : ℕ) → m < k → k < m + 1 + len → not (ends_text_map (at ns k)) ≡ true
   once : (k : ℕ) → m + 1 < k → k < m + 1 + len → same_name (at ns k) textmap ≡ false
   ended : same_name (at ns (m + 1 + len)) endmap ≡ true
 
@@ -118,14 +118,14 @@ text_run : (ns : List (List ℕ)) (m : ℕ) → begins_with_textmap (drop (m + 1
 text_run ns m text whole = record {
   goes_on = λ k lt le.
       let e : m + 1 + (k - (m + 1)) ≡ k = omega (arith, lt) in
-      ap (λ (n : List ℕ). not (ends_text n)) (sym (in_drop ns m (k - (m + 1)) k e)) ∙ more_goes_on [] (drop (m + 1) ns) (k - (m + 1)) [] (omega (arith, lt, le));
+      ap (λ (n : List ℕ). not (ends_text_map n)) (sym (in_drop ns m (k - (m + 1)) k e)) ∙ more_goes_on [] (drop (m + 1) ns) (k - (m + 1)) [] (omega (arith, lt, le));
   once = λ k lt le.
       let e : m + 1 + suc (k - (m + 2)) ≡ k = omega (arith, lt) in
       ap (λ (n : List ℕ). same_name n textmap) (sym (in_drop ns m (suc (k - (m + 2))) k e)) ∙ first_once (drop (m + 1) ns) (k - (m + 2)) text (omega (arith, lt, le));
   ended =
       let after : List (List ℕ) = drop (m + 1) ns in
       let len : ℕ = length (more true [] after) in
-      let there : begins_with endmap (drop len after) ≡ true = has_end (begins_with endmap (drop len after)) (sym (λ i. text i && not (begins_with endmap (drop (length (more (text i) [] after)) after))) ∙ whole) in
+      let there : begins_with_name endmap (drop len after) ≡ true = has_end (begins_with_name endmap (drop len after)) (sym (λ i. text i && not (begins_with_name endmap (drop (length (more (text i) [] after)) after))) ∙ whole) in
       ap (λ (n : List ℕ). same_name n endmap) (sym (in_drop ns m len (m + 1 + len) refl)) ∙ head_there after len endmap there;
 }
   where
@@ -180,5 +180,5 @@ behind_text ns a name first spot p q text lt le =
     let t = text_run ns p.marker text p.whole in
     let len : ℕ = length (more true [] (drop (p.marker + 1) ns)) in
     let other : begins_with_textmap (drop (q.marker + 1) ns) ≡ false = never_text ns p.marker len q.marker t lt le in
-    let there : place (codes "LINEDEFS") (more false [] (drop (q.marker + 1) ns)) ≡ Some q.l = sym (λ i. place (name_of (other i) Linedefs) (more (other i) [] (drop (q.marker + 1) ns))) ∙ q.linedefs in
+    let there : place (codes "LINEDEFS") (more false [] (drop (q.marker + 1) ns)) ≡ Some q.l = sym (λ i. place (lump_name (other i) Linedefs) (more (other i) [] (drop (q.marker + 1) ns))) ∙ q.linedefs in
     never_both ns p.marker len q.marker t (lump_run ns q.marker q.l there) lt le

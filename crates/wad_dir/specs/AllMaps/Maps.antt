@@ -31,8 +31,8 @@ abbrev pub maps_among : List (List ℕ) → List (List ℕ) → List (List ℕ)
 maps_among all names = markers_among (is_map all) names
 
 -- the maps of a WAD whose entries have these names
-abbrev pub maps_of : List (List ℕ) → List (List ℕ)
-maps_of names = maps_among names names
+abbrev pub maps_in_names : List (List ℕ) → List (List ℕ)
+maps_in_names names = maps_among names names
 
 -- an entry of this name, behind which these names stand, is the marker of a map of UDMF: a map can have the name, it is the last of
 -- its name, and TEXTMAP stands right behind it

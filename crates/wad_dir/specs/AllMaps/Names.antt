@@ -2,6 +2,6 @@
 use Rattle.std.specs.Prelude.{ℕ, ◌==◌, List, [], ◌∷◌, if◌then◌else◌}
 
 -- the bytes of a name up to its first NUL
-abbrev pub word_of : List ℕ → List ℕ
-word_of [] = []
-word_of (c ∷ cs) = if c == 0 then [] else c ∷ word_of cs
+abbrev pub name_before_nul : List ℕ → List ℕ
+name_before_nul [] = []
+name_before_nul (c ∷ cs) = if c == 0 then [] else c ∷ name_before_nul cs

@@ -13,7 +13,7 @@ printed w =
     else (if nat_le (2 ^ 31) (printed_len w.lumps) then Err fault.TooLong else Ok (print w))
 
 -- What was written is that, unless memory ran out.
-abbrev pub Writes : {V : Type 0} → (V → List ℕ) → Result V RewriteFault → Result (List ℕ) RewriteFault → Type 0
-Writes view (Ok v) said = said ≡ Ok (view v)
-Writes view (Err (fault.Memory _)) said = ⊤
-Writes view (Err f) said = said ≡ Err f
+abbrev pub WritesWad : {V : Type 0} → (V → List ℕ) → Result V RewriteFault → Result (List ℕ) RewriteFault → Type 0
+WritesWad view (Ok v) said = said ≡ Ok (view v)
+WritesWad view (Err (fault.Memory _)) said = ⊤
+WritesWad view (Err f) said = said ≡ Err f

@@ -9,11 +9,11 @@ ghost use Rattle.wad_dir.specs.Kept.{reject_then};
 ghost use Rattle.wad_dir.specs.Map.{entry_names, spot_of};
 ghost use Rattle.wad_dir.specs.Wad.{file_of};
 ghost use Rattle.wad_dir.specs.WadRewrite.Lumps.{view, views};
-ghost use Rattle.wad_dir.specs.WadRewrite.Rewrite.{Writes, printed};
+ghost use Rattle.wad_dir.specs.WadRewrite.Rewrite.{WritesWad, printed};
 ghost use Rattle.wad_dir.specs.AllMaps.All.{HasInOrder, names_changed, with_all};
-ghost use Rattle.wad_dir.specs.AllMaps.Maps.{maps_of};
+ghost use Rattle.wad_dir.specs.AllMaps.Maps.{maps_in_names};
 ghost use Rattle.wad_dir.specs.AllMaps.Places.{AreLast};
-ghost use Rattle.wad_dir.specs.AllMaps.Spliced.{AreSpaced, piece, place_behind, reject_of, spliced};
+ghost use Rattle.wad_dir.specs.AllMaps.Spliced.{AreSpaced, piece, place_behind_reject, reject_with, spliced};
 
 use crate::all_maps::parts::Change;
 use crate::all_maps::places::{find_at, last_places};
@@ -45,7 +45,7 @@ fn reject_place(spot: &MapSpot) -> usize
 
 /// The place of the first lump behind the REJECT of the map at the spot, or behind its SECTORS.
 fn place_behind(spot: &MapSpot) -> usize
-    ensures { result ≡ place_behind spot.now }
+    ensures { result ≡ place_behind_reject spot.now }
 {
     match spot.reject {
         Some(place) => place as usize + 1,
@@ -56,7 +56,7 @@ fn place_behind(spot: &MapSpot) -> usize
 /// The REJECT of the map at the spot with these bytes.
 fn reject_of<'a>(lumps: &[OutputLump<'a>], spot: &MapSpot, table: &'a [u8]) -> OutputLump<'a>
     requires { ForSome spot.now.reject (λ k. k < length lumps.now) }
-    ensures { view result ≡ reject_of (views lumps.now) spot.now table.now }
+    ensures { view result ≡ reject_with (views lumps.now) spot.now table.now }
 {
     match spot.reject {
         Some(place) => OutputLump {
@@ -76,7 +76,7 @@ fn push_piece<'a>(
     table: &'a [u8],
 ) -> Result<(), AllocError>
     requires begins { done ≤ reject_then spot.now }
-    requires ends { place_behind spot.now ≤ length lumps.now }
+    requires ends { place_behind_reject spot.now ≤ length lumps.now }
     ensures { OnOk result (views out.new.items ≡ views out.old.items ++ piece (views lumps.now) done spot.now table.now) }
 {
     let place = reject_place(spot);
@@ -119,8 +119,8 @@ pub fn with_rejects(
     changes: &[Change],
 ) -> Result<Vec<u8>, RewriteFault>
     requires inside { All (λ entry. entry.at + entry.size ≤ length bytes.now) wad.now.entries }
-    requires among { HasInOrder (maps_of (entry_names wad.now.entries)) (names_changed changes.now) }
-    ensures { Writes (λ v. v.items) result (printed (with_all (file_of bytes.now wad.now) changes.now)) }
+    requires among { HasInOrder (maps_in_names (entry_names wad.now.entries)) (names_changed changes.now) }
+    ensures { WritesWad (λ v. v.items) result (printed (with_all (file_of bytes.now wad.now) changes.now)) }
 {
     let entries = wad.entries.as_slice();
     let lumps = lumps_of(alloc, bytes, entries)?;

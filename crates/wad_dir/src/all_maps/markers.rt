@@ -6,7 +6,7 @@ ghost use Rattle.std.specs.Cmp.Lexicographic.{slice_cmp};
 ghost use Rattle.std.specs.List.{list_all};
 ghost use Rattle.std.specs.Ordering.{nat_cmp};
 ghost use Rattle.wad_dir.specs.Map.{begins_with_textmap, entry_names, key_of, spot_of};
-ghost use Rattle.wad_dir.specs.AllMaps.Maps.{is_map, is_map_name, is_udmf, is_visible, maps_of, udmf_maps_of};
+ghost use Rattle.wad_dir.specs.AllMaps.Maps.{is_map, is_map_name, is_udmf, is_visible, maps_in_names, udmf_maps_of};
 ghost use Rattle.wad_dir.specs.AllMaps.Places.{AreLast};
 
 use crate::all_maps::places::{find_at, last_places, told};
@@ -66,7 +66,7 @@ fn is_map(
 /// The names of the maps of a WAD, in the order of their entries: of each entry that is the last of its name, whose name
 /// a map can have, and of which `wad_dir::find_map` answers Ok. Names are in upper case, padded with NUL.
 pub fn maps(alloc: Global, wad: &Wad) -> Result<Vec<[u8; 8]>, Memory>
-    ensures maps { IfOk result (λ maps. maps.items ≡ maps_of (entry_names wad.now.entries)) }
+    ensures maps { IfOk result (λ maps. maps.items ≡ maps_in_names (entry_names wad.now.entries)) }
     // What callers need of it.
     ensures named { IfOk result (λ maps. All (λ name. IsTrue (is_map_name name)) maps.items) }
     ensures found { IfOk result (λ maps. All (λ name. IsOk (spot_of (entry_names wad.now.entries) name)) maps.items) }

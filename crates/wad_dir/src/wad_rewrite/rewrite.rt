@@ -3,9 +3,9 @@
 ghost use Rattle.std.specs.Prelude.{◌≡◌, ◌+◌, ◌*◌, ◌≤◌, ◌^◌, ◌<◌, nat_le, ◌++◌, length, map, vec_len, IfOk, OnOk, All};
 ghost use Rattle.std.specs.Option.{ForSome};
 ghost use Rattle.std.specs.Int.{w32, to_le_bytes};
-ghost use Rattle.wad_dir.specs.Wad.{file_of, lump_under, magic};
+ghost use Rattle.wad_dir.specs.Wad.{file_of, lump_under, wad_magic};
 ghost use Rattle.wad_dir.specs.Print.{body, directory_from, lumps_with_reject, printed_len, reject_lump, with_reject};
-ghost use Rattle.wad_dir.specs.WadRewrite.Rewrite.{Writes, printed};
+ghost use Rattle.wad_dir.specs.WadRewrite.Rewrite.{WritesWad, printed};
 ghost use Rattle.wad_dir.specs.WadRewrite.Lumps.{view, views};
 
 use crate::wad_rewrite::lumps::OutputLump;
@@ -122,7 +122,7 @@ fn push_bodies(out: &mut Vec<u8>, lumps: &[OutputLump]) -> Result<(), AllocError
 }
 
 fn magic(kind: Kind) -> &'static [u8]
-    ensures { result.now ≡ magic kind }
+    ensures { result.now ≡ wad_magic kind }
 {
     match kind {
         Kind::Iwad => b"IWAD",
@@ -134,7 +134,7 @@ fn magic(kind: Kind) -> &'static [u8]
 /// bytes are written apart. `TooManyLumps` and `TooLong` are answered before any memory is taken.
 #[tactic(auto, unfolding(crate::specs::WadRewrite::Rewrite::printed, crate::specs::Print::print))]
 pub fn write_wad(alloc: Global, kind: Kind, lumps: &[OutputLump]) -> Result<Vec<u8>, RewriteFault>
-    ensures { Writes (λ v. v.items) result (printed (record { kind = kind; lumps = views lumps.now })) }
+    ensures { WritesWad (λ v. v.items) result (printed (record { kind = kind; lumps = views lumps.now })) }
 {
     if lumps.len() > MOST_LUMPS as usize {
         return Err(RewriteFault::TooManyLumps);
@@ -166,7 +166,7 @@ pub fn with_reject(
     requires inside { All (λ entry. entry.at + entry.size ≤ length bytes.now) wad.now.entries }
     requires sectors { spot.now.sectors < length wad.now.entries }
     requires reject { ForSome spot.now.reject (λ k. k < length wad.now.entries) }
-    ensures { Writes (λ v. v.items) result (printed (with_reject (file_of bytes.now wad.now) spot.now table.now)) }
+    ensures { WritesWad (λ v. v.items) result (printed (with_reject (file_of bytes.now wad.now) spot.now table.now)) }
 {
     let mut lumps = lumps_of(alloc, bytes, wad.entries.as_slice())?;
     replace_reject(&mut lumps, spot, table)?;

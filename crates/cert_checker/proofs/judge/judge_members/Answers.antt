@@ -1,11 +1,11 @@
 use Rattle.std.proofs.Common.{ℕ, sym, ◌∙◌, subst}
 use Rattle.sight_names.specs.Map.{map_of}
-use Rattle.cert_checker.specs.Pairs.{IsWithin}
+use Rattle.cert_checker.specs.Pairs.{IsPairWithin}
 use Rattle.cert_checker.proofs.Judging.{known_is, about_is}
 use Rattle.cert_checker.proofs.judge.judge_members.Goals as goal
 
 pub ray_table-requires : goal.ray_table-requires
-ray_table-requires c = λ i r at. subst (λ (n : ℕ). IsWithin n r.pair) (sym (c.sectors-count.ensures ∙ c.requires.reached)) (c.requires.lists.rays_within i r at)
+ray_table-requires c = λ i r at. subst (λ (n : ℕ). IsPairWithin n r.pair) (sym (c.sectors-count.ensures ∙ c.requires.reached)) (c.requires.lists.rays_within i r at)
 
 pub judge_each_pair-requires : goal.judge_each_pair-requires
 judge_each_pair-requires c = record {

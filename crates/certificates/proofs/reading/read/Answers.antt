@@ -1,7 +1,7 @@
 use Rattle.std.proofs.Common.{Ok, Err, Result, arith, subst, sym, ◌∙◌}
 use Rattle.std.proofs.lemmas.Result.{err_from_is_err_and}
 use Rattle.sight_names.specs.declared.faults.CertFault.{CertFault}
-use Rattle.cert_format.specs.Reading.{Fails}
+use Rattle.cert_format.specs.Reading.{FailsCert}
 use Rattle.cert_format.specs.Parts.{CertParts}
 use Rattle.cert_format.proofs.WholeLaws.{reading_takes, spells_again}
 use Rattle.certificates.proofs.CertParts.Gathering.{one_read}
@@ -34,8 +34,8 @@ returns-in_err-parts-clause-only c = λ d s.
     let bytes = c.args.bytes.now in
     let f = c.in_err-parts.field-0.0 in
     let p = err_from_is_err_and c.from_residual.result c.from_residual.ensures.1 in
-    let read : Fails f _ = one_read c.args.sizes.now bytes c.parts_of.ensures.small (λ i. omega (arith, c.type_inv.bytes i)) (Err f) c.in_err-parts.ensures.all in
-    rw (p.1, p.2) (subst (λ (r : Result CertParts CertFault). Fails f r) (spells_again c.args.sizes.now bytes d s) read)
+    let read : FailsCert f _ = one_read c.args.sizes.now bytes c.parts_of.ensures.small (λ i. omega (arith, c.type_inv.bytes i)) (Err f) c.in_err-parts.ensures.all in
+    rw (p.1, p.2) (subst (λ (r : Result CertParts CertFault). FailsCert f r) (spells_again c.args.sizes.now bytes d s) read)
 
 pub returns-in_err-parts-clause-exact : goal.returns-in_err-parts-clause-exact
 returns-in_err-parts-clause-exact c =

@@ -1,7 +1,7 @@
 use Rattle.std.proofs.Common.{◌≡◌, ◌+◌, ◌*◌, ◌-◌, ◌<◌, ◌∙◌, ap, arith, zero-add}
 use Rattle.std.specs.List.{count_by, range_with_len}
 use Rattle.sight_names.specs.Table.{table_bit}
-use Rattle.map_answers.specs.Counts.{is_set}
+use Rattle.map_answers.specs.Counts.{is_pair_set}
 use Rattle.map_answers.proofs.Counting.{goes_on_no, goes_on_yes, test_is}
 use Rattle.draw_answers.specs.Lines.{set_in_row}
 use Rattle.draw_answers.proofs.row.count_row.Goals as goal
@@ -11,7 +11,7 @@ pub loop-b-init : goal.loop-b-init
 unfolding set_in_row
 loop-b-init c =
     let whole : c.args.table.now.n - 0 ≡ c.args.table.now.n = omega arith in
-    let row = is_set c.args.table.now c.args.a in
+    let row = is_pair_set c.args.table.now c.args.a in
     (zero-add (count_by row (range_with_len 0 (c.args.table.now.n - 0))) ∙ ap (λ k. count_by row (range_with_len 0 k)) whole, omega arith)
 
 pub loop-b-preserved : goal.loop-b-preserved
@@ -19,6 +19,6 @@ loop-b-preserved c =
     let within : c.loop-b.b < c.args.table.now.n = omega (arith, c.sectors-b-end.ensures) in
     let bit = test_is c.rejects.result (table_bit c.args.table.now.bytes (c.args.a * c.args.table.now.n + c.loop-b.b)) c.rejects.ensures in
     elim c.if-rejects.branch [
-      | then-rejects w ↦ (goes_on_yes (is_set c.args.table.now c.args.a) c.loop-b.b c.args.table.now.n c.loop-b.count c.if-rejects.count _ within (bit ∙ w.if-rejects.true) w.count-is c.loop-b.invariant.0, omega arith)
-      | else-rejects w ↦ (goes_on_no (is_set c.args.table.now c.args.a) c.loop-b.b c.args.table.now.n c.loop-b.count c.if-rejects.count _ within (bit ∙ w.if-rejects.false) w.count-is c.loop-b.invariant.0, omega arith)
+      | then-rejects w ↦ (goes_on_yes (is_pair_set c.args.table.now c.args.a) c.loop-b.b c.args.table.now.n c.loop-b.count c.if-rejects.count _ within (bit ∙ w.if-rejects.true) w.count-is c.loop-b.invariant.0, omega arith)
+      | else-rejects w ↦ (goes_on_no (is_pair_set c.args.table.now c.args.a) c.loop-b.b c.args.table.now.n c.loop-b.count c.if-rejects.count _ within (bit ∙ w.if-rejects.false) w.count-is c.loop-b.invariant.0, omega arith)
     ]

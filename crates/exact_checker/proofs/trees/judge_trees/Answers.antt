@@ -3,7 +3,7 @@ use Rattle.std.proofs.lemmas.Result.{IfOk-weaker}
 use Rattle.sight_names.specs.declared.names.Triangle.{Triangle}
 use Rattle.sight_names.specs.Map.{map_of}
 use Rattle.sight_names.specs.Plan.{PlanParts}
-use Rattle.cert_checker.specs.TreeJudge.Roots.{AreRoots}
+use Rattle.cert_checker.specs.TreeJudge.Roots.{AreRootChains}
 use Rattle.face_groups.specs.TriSectors.Components.{AreComponents}
 use Rattle.cert_format.specs.Accepted.{triangles_of, labels_of}
 use Rattle.certificates.specs.CertExact.Grammar.{as_two}
@@ -36,7 +36,7 @@ returns g c = λ cert are.
     let known : OwningParts = record { count = c.plan.inside.sectors; components = c.as_slice-3.result.now; ranks = c.as_slice-4.result.now; joined = c.args.joined.now } in
     let size : c.plan.inside.sectors ≡ c.args.over.now.plan.sectors = ap (λ (q : PlanParts). q.sectors) c.plan.view_is in
     let rows = subst (λ (n : ℕ). AreJoinedRows n cert.rays c.args.joined.now) (sym size) are.rows_are in
-    let begin = subst (λ (us : List Triangle). AreRoots (map_of p) us xs roots firsts) are.triangles c.in_ok-roots.ensures in
+    let begin = subst (λ (us : List Triangle). AreRootChains (map_of p) us xs roots firsts) are.triangles c.in_ok-roots.ensures in
     let masks = edge_masks_are p are.plan ts ls are.good xs are.edges (as_two cert).cert c.args.joined.now are.rows_are c.in_ok-kept.kept.width c.in_ok-kept.ensures.room c.in_ok-kept.kept.places.items c.in_ok-kept.kept.words.items c.in_ok-kept.ensures.masks ms refl c.as_slice.ensures.value c.as_slice-2.ensures.value in
     let components = subst (AreComponents (map_of p)) (sym c.as_slice-3.ensures.value) c.in_ok-components.ensures.components in
     let ranks = subst (AreRanks c.plan.inside.sectors cert.rays) (sym c.as_slice-4.ensures.value) (c.in_ok-ranks.ensures.ranks cert.rays rows) in

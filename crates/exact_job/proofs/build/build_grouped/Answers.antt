@@ -4,7 +4,7 @@ use Rattle.sight_names.specs.declared.names.Triangle.{Triangle}
 use Rattle.sight_names.specs.Map.{map_of}
 use Rattle.mesh_shape.specs.HalfEdges.HalfEdges.{AreHalfEdges}
 use Rattle.cert_format.specs.declared.cert.Sizes.{Sizes}
-use Rattle.cert_format.specs.Sizes.{sizes_of}
+use Rattle.cert_format.specs.Sizes.{sizes_of_plan}
 use Rattle.cert_checker.specs.Apart.{labels_in, triangles_in}
 use Rattle.cert_checker.specs.Rays.{AreSightRaysBelow}
 use Rattle.cert_format.specs.CertGroups.Grammar.{IsTwoInOrder}
@@ -12,7 +12,7 @@ use Rattle.certificates.specs.declared.cert_exact.cert.ExactParts.{ExactParts}
 use Rattle.certificates.specs.CertExact.Grammar.{as_two}
 use Rattle.exact_checker.specs.Judged.{IsThreeFor, TellsTrees}
 use Rattle.exact_job.specs.declared.build.ExactBuilt.{ExactBuilt}
-use Rattle.exact_job.specs.Built.{IsOverGroups, IsSettled}
+use Rattle.exact_job.specs.Built.{IsPlanOfGroups, IsSettled}
 use Rattle.exact_job.specs.Rays.{AreRaysInOrder}
 use Rattle.exact_job.proofs.Grounds.{ground}
 use Rattle.exact_job.proofs.InOrder.{in_order, three}
@@ -34,7 +34,7 @@ finish-requires-clause-three g c =
     subst (IsThreeFor c.args.plan.now) (sym c.cert_of-cert.ensures) (three c.args.plan.now c.args.sizes c.args.groups c.args.triangles.items c.in_ok-settled.settled.rays.items c.in_ok-settled.settled.trees.items c.requires.sizes order each)
 
 pub finish-requires-clause-over : goal.finish-requires-clause-over
-finish-requires-clause-over g c = subst (λ (x : ExactParts). IsOverGroups c.args.plan.now x.groups (triangles_in x.triangles) (labels_in x.triangles) c.args.over.now.plan) (sym c.cert_of-cert.ensures) c.requires.over
+finish-requires-clause-over g c = subst (λ (x : ExactParts). IsPlanOfGroups c.args.plan.now x.groups (triangles_in x.triangles) (labels_in x.triangles) c.args.over.now.plan) (sym c.cert_of-cert.ensures) c.requires.over
 
 pub finish-requires-clause-rays : goal.finish-requires-clause-rays
 finish-requires-clause-rays g c = subst (λ (x : ExactParts). AreSightRaysBelow (map_of c.args.over.now.plan) x.rays (length x.rays)) (sym c.cert_of-cert.ensures) c.in_ok-settled.ensures.sight
@@ -56,7 +56,7 @@ returns-clause-in_order g c =
     let rays = subst (λ (n : ℕ). AreRaysInOrder (record { sectors = n; points = c.args.sizes.points; lines = c.args.sizes.lines }) c.in_ok-settled.settled.rays.items) count s.rays in
     let each = s.trees.one_each ∙ count in
     let order = in_order c.args.sizes c.args.groups c.args.triangles.items c.in_ok-settled.settled.rays.items c.in_ok-settled.settled.trees.items c.requires.in_order rays each s.trees.nodes in
-    let here = subst (λ (x : ExactParts). IsTwoInOrder (sizes_of c.args.plan.now) (as_two x)) (sym c.cert_of-cert.ensures)
+    let here = subst (λ (x : ExactParts). IsTwoInOrder (sizes_of_plan c.args.plan.now) (as_two x)) (sym c.cert_of-cert.ensures)
     (subst (λ (z : Sizes). IsTwoInOrder z (as_two (record { sizes = c.args.sizes; groups = c.args.groups; triangles = c.args.triangles.items; rays = c.in_ok-settled.settled.rays.items; trees = c.in_ok-settled.settled.trees.items }))) c.requires.sizes order) in
-    IfOk-weaker c.finish.result (λ (b : ExactBuilt). b.cert ≡ c.cert_of-cert.result) (λ (b : ExactBuilt). IsTwoInOrder (sizes_of c.args.plan.now) (as_two b.cert))
-    (λ b e. subst (λ (x : ExactParts). IsTwoInOrder (sizes_of c.args.plan.now) (as_two x)) (sym e) here) c.finish.ensures.cert
+    IfOk-weaker c.finish.result (λ (b : ExactBuilt). b.cert ≡ c.cert_of-cert.result) (λ (b : ExactBuilt). IsTwoInOrder (sizes_of_plan c.args.plan.now) (as_two b.cert))
+    (λ b e. subst (λ (x : ExactParts). IsTwoInOrder (sizes_of_plan c.args.plan.now) (as_two x)) (sym e) here) c.finish.ensures.cert

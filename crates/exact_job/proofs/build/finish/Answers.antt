@@ -2,7 +2,7 @@ use Rattle.std.proofs.Common.{◌∙◌, ℕ, List, length, map, ap, sym, subst}
 use Rattle.sight_names.specs.declared.names.PairRay.{PairRay}
 use Rattle.sight_names.specs.Plan.{PlanParts}
 use Rattle.group_job.specs.Sectors.{AreOfSectors, ArePairsBelow}
-use Rattle.found_rays.specs.Lines.{pair_of}
+use Rattle.found_rays.specs.Lines.{pair_of_ray}
 use Rattle.exact_job.proofs.Accepting.{accepted, tells}
 use Rattle.exact_job.proofs.Tables.{of_sectors, pairs_below}
 use Rattle.exact_job.proofs.build.finish.Goals as goal
@@ -14,8 +14,8 @@ table_of-requires-clause-below c =
 
 pub table_of-requires-clause-pairs : goal.table_of-requires-clause-pairs
 table_of-requires-clause-pairs c =
-    subst (λ (gs : List (List ℕ)). ArePairsBelow (length gs) (map pair_of c.as_slice-2.result.now)) (sym c.as_slice.ensures)
-    (subst (λ (rs : List PairRay). ArePairsBelow (length c.args.cert.groups) (map pair_of rs)) (sym c.as_slice-2.ensures) (pairs_below c.args.plan.now c.args.cert c.requires.three))
+    subst (λ (gs : List (List ℕ)). ArePairsBelow (length gs) (map pair_of_ray c.as_slice-2.result.now)) (sym c.as_slice.ensures)
+    (subst (λ (rs : List PairRay). ArePairsBelow (length c.args.cert.groups) (map pair_of_ray rs)) (sym c.as_slice-2.ensures) (pairs_below c.args.plan.now c.args.cert c.requires.three))
 
 pub returns-clause-accepted : goal.returns-clause-accepted
 returns-clause-accepted c =

@@ -5,7 +5,7 @@ use Rattle.sight_names.specs.declared.names.PairRay.{PairRay}
 use Rattle.group_job.specs.Marks.{SetsMore, OfSteps}
 use Rattle.group_job.proofs.Marks.{sets_next}
 use Rattle.group_job.proofs.Steps.{ListedStep, listed_set, listed_step}
-use Rattle.found_rays.specs.Lines.{pair_of}
+use Rattle.found_rays.specs.Lines.{pair_of_ray}
 use Rattle.exact_job.proofs.Tables.{pair_low, pair_there}
 use Rattle.exact_job.proofs.table.set_joined.Goals as goal
 
@@ -49,12 +49,12 @@ loop-i-preserved c =
     let below = pair_low (length c.args.groups.now) c.args.rays.now c.loop-i.i nothing c.requires.pairs c.loop-i-test.true in
     let at_a : slice_get c.args.groups.now x.a ≡ Some c.as_slice-from.result.now = slice_get_read c.args.groups.now (length c.args.groups.now) x.a c.index-groups-rays.result refl below.0 c.index-groups-rays.is ∙ ap (λ (xs : List ℕ). Some xs) (sym c.as_slice-from.ensures) in
     let at_b : slice_get c.args.groups.now x.b ≡ Some c.as_slice-to.result.now = slice_get_read c.args.groups.now (length c.args.groups.now) x.b c.index-groups-rays-in-loop-i.result refl below.1 c.index-groups-rays-in-loop-i.is ∙ ap (λ (xs : List ℕ). Some xs) (sym c.as_slice-to.ensures) in
-    sets_next (ListedStep c.args.groups.now (map pair_of c.args.rays.now)) c.loop-i.i c.args.marks.now c.loop-i.marks c.set_block-in-loop-i.new.table c.loop-i.invariant
-    (listed_step c.args.groups.now (map pair_of c.args.rays.now) c.loop-i.i x c.as_slice-from.result.now c.as_slice-to.result.now c.loop-i.marks c.set_block.new.table c.set_block-in-loop-i.new.table (pair_there c.args.rays.now c.loop-i.i nothing c.loop-i-test.true) at_a at_b c.set_block.ensures c.set_block-in-loop-i.ensures)
+    sets_next (ListedStep c.args.groups.now (map pair_of_ray c.args.rays.now)) c.loop-i.i c.args.marks.now c.loop-i.marks c.set_block-in-loop-i.new.table c.loop-i.invariant
+    (listed_step c.args.groups.now (map pair_of_ray c.args.rays.now) c.loop-i.i x c.as_slice-from.result.now c.as_slice-to.result.now c.loop-i.marks c.set_block.new.table c.set_block-in-loop-i.new.table (pair_there c.args.rays.now c.loop-i.i nothing c.loop-i-test.true) at_a at_b c.set_block.ensures c.set_block-in-loop-i.ensures)
 
 pub returns : goal.returns
 returns c =
-    let pairs = map pair_of c.args.rays.now in
-    let l = length-map c.args.rays.now pair_of in
+    let pairs = map pair_of_ray c.args.rays.now in
+    let l = length-map c.args.rays.now pair_of_ray in
     let e : c.loop-i.i ≡ length pairs = omega (arith, l) in
     listed_set c.args.groups.now pairs c.args.marks.now c.loop-i.marks (subst (λ (n : ℕ). SetsMore (OfSteps (ListedStep c.args.groups.now pairs) n) c.args.marks.now c.loop-i.marks) e c.loop-i.invariant)

@@ -3,7 +3,7 @@ use Rattle.sight_names.specs.Map.{map_of}
 use Rattle.sight_names.specs.Mesh.{label_of}
 use Rattle.face_groups.specs.GroupsBase.Table.{NamedAreLabelled}
 use Rattle.face_groups.specs.Regrouped.{regrouped_plan}
-use Rattle.group_checker.specs.Lists.{IsGroupFault}
+use Rattle.group_checker.specs.Lists.{IsFirstListFault}
 use Rattle.group_checker.proofs.Ending.{fault_told, group_fault_told, named_labelled, plain_is}
 use Rattle.group_checker.proofs.grouping.judge_sided.Goals as goal
 
@@ -33,4 +33,4 @@ returns-in-Some-fault c =
     let ts = c.args.mesh.triangles in
     let n = length c.args.groups.now in
     group_fault_told p c.requires.plan ts c.args.labels c.args.groups.now c.in_ok-grouped.grouped (c.in_ok-grouped.ensures ∙ ap (λ (ls : List (Option ℕ)). regrouped_plan ts ls n p) c.as_slice.ensures) c.in_default.ensures c.requires.sides c.in-Some-fault.fault
-    (subst (IsGroupFault (map_of p) ts c.args.groups.now c.args.labels) c.in-Some-fault.is c.in_ok-fault.ensures)
+    (subst (IsFirstListFault (map_of p) ts c.args.groups.now c.args.labels) c.in-Some-fault.is c.in_ok-fault.ensures)

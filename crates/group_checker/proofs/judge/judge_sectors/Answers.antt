@@ -7,7 +7,7 @@ use Rattle.cert_checker.specs.Judged.{JudgesPairsBy}
 use Rattle.cert_checker.specs.Members.{AreMembersBelow, IsMember}
 use Rattle.cert_checker.proofs.Judging.{pairs_moved}
 use Rattle.cert_checker.proofs.Alone.{member_is}
-use Rattle.group_checker.specs.Judged.{TellsPairs}
+use Rattle.group_checker.specs.Judged.{TellsPairsOfTwo}
 use Rattle.group_checker.proofs.Judging.{few_are, fit_lists, members_below, members_moved}
 use Rattle.group_checker.proofs.judge.judge_sectors.Goals as goal
 
@@ -26,7 +26,7 @@ pub returns-clause-pairs : goal.returns-clause-pairs
 returns-clause-pairs c = λ cert groups listed rays told.
     let g = map_of c.args.grouped.now in
     let all = members_moved c.sectors.result cert.groups c.args.groups.now c.in_ok-members.members.items c.as_slice.result.now (sym groups) c.as_slice.ensures.value c.in_ok-members.ensures in
-    IfOk-weaker c.judge_members.result (JudgesPairsBy g (IsMember c.as_slice.result.now) c.args.table.now c.args.listed.now cert.cert) (TellsPairs g c.args.table.now cert)
+    IfOk-weaker c.judge_members.result (JudgesPairsBy g (IsMember c.as_slice.result.now) c.args.table.now c.args.listed.now cert.cert) (TellsPairsOfTwo g c.args.table.now cert)
     (λ v h. subst (λ (ps : List Pair). JudgesPairsBy g (IsInGroup cert.groups) c.args.table.now ps cert.cert v) (sym listed)
     (pairs_moved g (IsMember c.as_slice.result.now) (IsInGroup cert.groups) c.args.table.now c.args.listed.now cert.cert (λ a f l. member_is (IsInGroup cert.groups) c.sectors.result c.as_slice.result.now all a f (subst (λ (n : ℕ). a < n) (sym c.sectors.ensures) l)) v h))
     (c.judge_members.ensures.pairs cert.cert rays told)

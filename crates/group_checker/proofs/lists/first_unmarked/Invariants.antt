@@ -1,6 +1,6 @@
-use Rattle.cert_checker.specs.TreeJudge.Marks.{IsMarked}
+use Rattle.cert_checker.specs.TreeJudge.Marks.{IsFlagSet}
 use Rattle.cert_checker.proofs.Each.{AtEachBelow}
 use Rattle.group_checker.proofs.lists.first_unmarked.Given as goal
 
 abbrev pub invariant-loop-f : goal.invariant-loop-f
-invariant-loop-f l = AtEachBelow (IsMarked l.marks) l.f
+invariant-loop-f l = AtEachBelow (IsFlagSet l.marks) l.f

@@ -3,7 +3,7 @@ use Rattle.std.specs.List.{AllByRecursion}
 use Rattle.sight_names.specs.Mesh.{AreTriangles}
 use Rattle.cert_format.specs.declared.cert.Labelled.{Labelled}
 use Rattle.cert_format.specs.Parts.{CertParts}
-use Rattle.cert_format.specs.Grammar.{IsInOrder}
+use Rattle.cert_format.specs.Grammar.{IsOneInOrder}
 use Rattle.cert_format.proofs.LimitLaws.{twice_fits}
 use Rattle.triangulate.proofs.MeshBound.{few_in_plan}
 use Rattle.group_job.proofs.BuildLaws.{cert_in_order, same_parts}
@@ -23,7 +23,7 @@ cert_of-cert-requires c =
     let twice = few_in_plan j.plan.now plan faces.sound.ends j.mesh.now.triangles faces.mesh in
     let few = twice_fits (length j.plan.now.points) (length c.in_ok-triangles.triangles.items) plan.few_points (let kept = c.in_ok-triangles.ensures.few in omega (arith, kept, twice)) in
     let good = cert_in_order j.plan.now plan j.budget v (are j plan faces c.requires.components c.requires.len c.args.results.items c.requires.results v d.table d.listed d.rays d.trees) c.in_ok-triangles.triangles.items few ascend sectors in
-    subst IsInOrder (sym (same_parts _ _ _ _ _ _ _ _ c.map_sizes.ensures.sizes c.into_vec.ensures c.new.ensures.items c.into_vec-2.ensures)) good
+    subst IsOneInOrder (sym (same_parts _ _ _ _ _ _ _ _ c.map_sizes.ensures.sizes c.into_vec.ensures c.new.ensures.items c.into_vec-2.ensures)) good
 
 pub returns : goal.returns
 returns c =

@@ -1,6 +1,6 @@
 use Rattle.std.proofs.Common.{◌+◌, ◌*◌, ◌<◌, ◌∙◌, arith}
 use Rattle.sight_names.specs.Table.{table_bit}
-use Rattle.map_answers.specs.Counts.{is_set, set_from}
+use Rattle.map_answers.specs.Counts.{is_pair_set, set_from}
 use Rattle.map_answers.proofs.Counting.{goes_on_no, goes_on_yes, test_is}
 use Rattle.map_answers.proofs.counts.count_from.Goals as goal
 use Rattle.map_answers.proofs.counts.count_from.Goals.{then-rejects, else-rejects}
@@ -14,6 +14,6 @@ loop-b-preserved c =
     let within : c.loop-b.b < c.args.table.now.n = omega (arith, c.sectors-b-end.ensures) in
     let bit = test_is c.rejects.result (table_bit c.args.table.now.bytes (c.args.a * c.args.table.now.n + c.loop-b.b)) c.rejects.ensures in
     elim c.if-rejects.branch [
-      | then-rejects w ↦ (goes_on_yes (is_set c.args.table.now c.args.a) c.loop-b.b c.args.table.now.n c.loop-b.count c.if-rejects.count _ within (bit ∙ w.if-rejects.true) w.count-is c.loop-b.invariant.0, omega arith)
-      | else-rejects w ↦ (goes_on_no (is_set c.args.table.now c.args.a) c.loop-b.b c.args.table.now.n c.loop-b.count c.if-rejects.count _ within (bit ∙ w.if-rejects.false) w.count-is c.loop-b.invariant.0, omega arith)
+      | then-rejects w ↦ (goes_on_yes (is_pair_set c.args.table.now c.args.a) c.loop-b.b c.args.table.now.n c.loop-b.count c.if-rejects.count _ within (bit ∙ w.if-rejects.true) w.count-is c.loop-b.invariant.0, omega arith)
+      | else-rejects w ↦ (goes_on_no (is_pair_set c.args.table.now c.args.a) c.loop-b.b c.args.table.now.n c.loop-b.count c.if-rejects.count _ within (bit ∙ w.if-rejects.false) w.count-is c.loop-b.invariant.0, omega arith)
     ]

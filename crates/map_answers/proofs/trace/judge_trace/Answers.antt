@@ -3,7 +3,7 @@ use Rattle.std.specs.Prelude.{⊤, string_bytes}
 use Rattle.std.proofs.lemmas.Result.{err_from_is_err_and}
 use Rattle.sight_names.specs.Map.{map_of}
 use Rattle.map_answers.specs.Groups.{seen}
-use Rattle.map_answers.specs.Trace.{RayCallsFor, places_of, trace_line}
+use Rattle.map_answers.specs.Trace.{RayCallsFor, places_of_groups, trace_line}
 use Rattle.map_answers.proofs.Closed.{gives_flaw}
 use Rattle.map_answers.proofs.Traces.{gives_line, gives_stopped}
 use Rattle.map_answers.proofs.trace.judge_trace.Goals as goal
@@ -24,5 +24,5 @@ returns-in-Ok-trace_line_of-clause-judged c =
     let e = c.in_ok-groups.ensures in
     let g = c.in_ok-groups.groups in
     gives_line c.args.plan.now c.args.ray.now (seen g) c.in_ok-passed.passed.items c.in-Ok.places.items (string_bytes c.in-Ok-trace_line_of.line) e.groups.plan e.lines e.groups.over c.in_ok-passed.ensures.answer
-    (c.in-Ok.ensures ∙ ap (places_of g.grouped.labels) c.deref.ensures.value)
+    (c.in-Ok.ensures ∙ ap (places_of_groups g.grouped.labels) c.deref.ensures.value)
     (c.in-Ok-trace_line_of.ensures ∙ ap (λ (gs : List (List ℕ)). trace_line gs c.deref-2.result.now) c.as_slice.ensures ∙ ap (trace_line g.grouped.groups) c.deref-2.ensures.value)

@@ -1,7 +1,7 @@
 use Rattle.std.proofs.Common.{[], ◌∷◌, ◌++◌}
 use Rattle.sight_names.specs.Map.{map_of}
 use Rattle.map_picture.specs.declared.sheet.Subject.TheVariants as subject
-use Rattle.map_picture.specs.Picture.{Entered, Stops, blind_picture, numbered, pair_faces, pair_rings}
+use Rattle.map_picture.specs.Picture.{Entered, Stops, blind_picture, triangles_with_numbers, pair_faces, pair_rings}
 use Rattle.map_picture.proofs.Drawn.{alone, drawn_on, entered_on, framed, two_over}
 use Rattle.map_picture.proofs.picture.blind_picture.Goals as goal
 
@@ -13,7 +13,7 @@ returns c =
     let ls = c.args.labels.now in
     let gs = c.args.groups.now in
     let faces = pair_faces gs ts ls c.args.pair.a c.args.pair.b in
-    let entered = Entered c.args.sector (numbered ts c.args.entered.now) in
+    let entered = Entered c.args.sector (triangles_with_numbers ts c.args.entered.now) in
     let ground = entered_on f c.args.name.now (subject.Pair c.args.pair.a c.args.pair.b) m faces entered _ _ c.in_ok-out.ensures c.in_ok-push_entered.ensures in
     let stops = alone f m (Stops c.args.stops.now) _ _ c.in_ok-push_stops.ensures in
     let over = two_over f m (Stops c.args.stops.now ∷ []) (pair_rings m gs ts ls c.args.pair.a c.args.pair.b) _ _ _ stops c.in_ok-push_rings.ensures in

@@ -3,7 +3,7 @@ use Rattle.std.specs.Prelude.{IfOk}
 use Rattle.math_base.proofs.Bools.{not_both_values}
 use Rattle.sight_names.specs.Map.{map_of}
 use Rattle.pair_answer.specs.Answer.{IsAnswerFor}
-use Rattle.pair_answer.specs.Between.{IsBetween}
+use Rattle.pair_answer.specs.Between.{IsAnswerBetween}
 use Rattle.pair_answer.specs.Numbers.{AreBelow}
 use Rattle.pair_answer.specs.Places.{ArePlacesOf, ShareOne}
 use Rattle.pair_answer.proofs.Answered.{answered, ends_of_groups, good_groups, own_mesh, places_below, touches}
@@ -67,9 +67,9 @@ returns c =
     let of_b : ArePlacesOf g.groups c.args.pair.b to = subst (λ (gs : List (List ℕ)). ArePlacesOf gs c.args.pair.b to) c.as_slice-2.ensures c.in_ok-to.ensures in
     let none : ¬ ShareOne from to = λ s. not_both_values c.share_one.result
     (c.share_one.ensures.1 (subst (λ (xs : List ℕ). ShareOne xs c.as_slice-4.result.now) (sym c.as_slice-3.ensures.value) (subst (λ (ys : List ℕ). ShareOne from ys) (sym c.as_slice-4.ensures.value) s))) c.if-share_one.false in
-    let between = subst (λ (xs : List ℕ). IfOk c.walk_between.result (IsBetween (map_of g.plan) ts g.labels budget xs to)) c.as_slice-5.ensures.value
-    (subst (λ (ys : List ℕ). IfOk c.walk_between.result (IsBetween (map_of g.plan) ts g.labels budget c.as_slice-5.result.now ys)) c.as_slice-6.ensures.value c.walk_between.ensures) in
+    let between = subst (λ (xs : List ℕ). IfOk c.walk_between.result (IsAnswerBetween (map_of g.plan) ts g.labels budget xs to)) c.as_slice-5.ensures.value
+    (subst (λ (ys : List ℕ). IfOk c.walk_between.result (IsAnswerBetween (map_of g.plan) ts g.labels budget c.as_slice-5.result.now ys)) c.as_slice-6.ensures.value c.walk_between.ensures) in
     record {
-      answer = ok_so c.walk_between.result (IsBetween (map_of g.plan) ts g.labels budget from to) (IsAnswerFor (map_of p) c.args.ask c.args.pair)
+      answer = ok_so c.walk_between.result (IsAnswerBetween (map_of g.plan) ts g.labels budget from to) (IsAnswerFor (map_of p) c.args.ask c.args.pair)
           (answered p c.lines.ensures.plan c.args.mesh.now g c.requires.groups c.args.ask c.args.pair c.in_default.ensures.0 c.in_default.ensures.1 from to of_a of_b none budget c.budget_for-budget.ensures) between;
     }

@@ -2,7 +2,7 @@ use Rattle.std.proofs.Common.{ℕ, ◌<◌, ◌∙◌, List, Contains, length, a
 use Rattle.std.proofs.lemmas.Bool.{eqb-true}
 use Rattle.std.proofs.lemmas.List.{nil_from_length}
 use Rattle.math_base.proofs.Bools.{not_both_values}
-use Rattle.pair_answer.specs.Places.{AreJoined}
+use Rattle.pair_answer.specs.Places.{AreJoinedByComponent}
 use Rattle.sight_names.specs.Map.{map_of}
 use Rattle.pair_answer.specs.declared.walks.AllSought.{AllSought}
 use Rattle.pair_answer.specs.Numbers.{AreBelow}
@@ -41,7 +41,7 @@ returns-then-is_empty c =
     let g = c.args.ground.now in
     let r = subst (λ (xs : List ℕ). AreSought (map_of g.plan.now) g.mesh.now.triangles g.labels.now g.budget xs c.args.spent.now c.in_ok-ray.field-0) c.as_slice.ensures.value c.in_ok-ray.ensures in
     let m : AreMissed (map_of g.plan.now) g.mesh.now.triangles g.labels.now g.budget c.in_ok-far.far.items c.args.spent.now c.in-Missed.spent_too.items = subst (λ (s : AllSought). AreSought (map_of g.plan.now) g.mesh.now.triangles g.labels.now g.budget c.in_ok-far.far.items c.args.spent.now s) c.in-Missed.is r in
-    let both = subst (λ (xs : List ℕ). AreJoined c.args.components.now c.args.spent.now xs c.in_ok-left-in-Missed.left.items) c.as_slice-in-Missed.ensures.value c.in_ok-left-in-Missed.ensures in
+    let both = subst (λ (xs : List ℕ). AreJoinedByComponent c.args.components.now c.args.spent.now xs c.in_ok-left-in-Missed.left.items) c.as_slice-in-Missed.ensures.value c.in_ok-left-in-Missed.ensures in
     (find_none (map_of g.plan.now) g.mesh.now.triangles g.labels.now g.budget c.args.components.now c.args.spent.now c.args.to.now c.in_ok-far.far.items c.in_ok-far.ensures c.in-Missed.spent_too.items c.in_ok-left-in-Missed.left.items m both, none_left (map_of g.plan.now) g.mesh.now.triangles g.labels.now g.budget c.args.components.now c.args.spent.now c.args.to.now c.in_ok-far.far.items c.in_ok-far.ensures c.in-Missed.spent_too.items c.in_ok-left-in-Missed.left.items m both (nil_from_length _ (sym c.in_ok-left-in-Missed.left.ok.0 ∙ eqb-true _ _ (sym c.is_empty.ensures ∙ c.if-is_empty.true))))
 
 pub returns : goal.returns
@@ -49,5 +49,5 @@ returns c =
     let g = c.args.ground.now in
     let r = subst (λ (xs : List ℕ). AreSought (map_of g.plan.now) g.mesh.now.triangles g.labels.now g.budget xs c.args.spent.now c.in_ok-ray.field-0) c.as_slice.ensures.value c.in_ok-ray.ensures in
     let m : AreMissed (map_of g.plan.now) g.mesh.now.triangles g.labels.now g.budget c.in_ok-far.far.items c.args.spent.now c.in-Missed.spent_too.items = subst (λ (s : AllSought). AreSought (map_of g.plan.now) g.mesh.now.triangles g.labels.now g.budget c.in_ok-far.far.items c.args.spent.now s) c.in-Missed.is r in
-    let both = subst (λ (xs : List ℕ). AreJoined c.args.components.now c.args.spent.now xs c.in_ok-left-in-Missed.left.items) c.as_slice-in-Missed.ensures.value c.in_ok-left-in-Missed.ensures in
+    let both = subst (λ (xs : List ℕ). AreJoinedByComponent c.args.components.now c.args.spent.now xs c.in_ok-left-in-Missed.left.items) c.as_slice-in-Missed.ensures.value c.in_ok-left-in-Missed.ensures in
     (find_none (map_of g.plan.now) g.mesh.now.triangles g.labels.now g.budget c.args.components.now c.args.spent.now c.args.to.now c.in_ok-far.far.items c.in_ok-far.ensures c.in-Missed.spent_too.items c.in_ok-left-in-Missed.left.items m both, some_left (map_of g.plan.now) g.mesh.now.triangles g.labels.now g.budget c.args.components.now c.args.spent.now c.args.to.now c.in_ok-far.far.items c.in_ok-far.ensures c.in-Missed.spent_too.items c.in_ok-left-in-Missed.left.items m both (λ e. not_both_values _ (c.is_empty.ensures ∙ ap (λ (n : ℕ). eqb n 0) (c.in_ok-left-in-Missed.left.ok.0 ∙ ap (λ (xs : List ℕ). length xs) e)) c.if-is_empty.false))

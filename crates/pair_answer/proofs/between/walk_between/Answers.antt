@@ -7,8 +7,8 @@ use Rattle.std.specs.Prelude.{IfOk}
 use Rattle.sight_names.proofs.PlanMap.{plan_is_map}
 use Rattle.group_job.proofs.VerdictLaws.{tells_connected}
 use Rattle.group_job.proofs.Finding.{found_sees}
-use Rattle.pair_answer.specs.Between.{IsBack, IsBetween}
-use Rattle.pair_answer.specs.Places.{AreJoined}
+use Rattle.pair_answer.specs.Between.{IsAnswerBack, IsAnswerBetween}
+use Rattle.pair_answer.specs.Places.{AreJoinedByComponent}
 use Rattle.pair_answer.proofs.Decision.{decides, ok_so, ray_there}
 use Rattle.pair_answer.proofs.between.walk_between.Goals as goal
 
@@ -42,11 +42,11 @@ returns c =
     let ls = c.args.labels.now in
     let cs = c.in_ok-classes.classes.items in
     let low = λ (xs : List ℕ) (h : AreBelow p.sectors xs). subst (λ (n : ℕ). AreBelow n xs) (sym c.in_ok-classes.ensures.len) h in
-    let near = subst (λ (ks : List ℕ). AreJoined ks c.args.from.now c.args.to.now c.in_ok-near.near.items) c.as_slice.ensures.value c.in_ok-near.ensures in
+    let near = subst (λ (ks : List ℕ). AreJoinedByComponent ks c.args.from.now c.args.to.now c.in_ok-near.near.items) c.as_slice.ensures.value c.in_ok-near.ensures in
     let r = subst (λ (xs : List ℕ). AreSought m ts ls c.args.budget xs c.args.to.now c.in_ok-ray.field-0) c.as_slice-2.ensures.value c.in_ok-ray.ensures in
     let missed : AreMissed m ts ls c.args.budget c.in_ok-near.near.items c.args.to.now c.in-Missed.spent.items = subst (λ (s : AllSought). AreSought m ts ls c.args.budget c.in_ok-near.near.items c.args.to.now s) c.in-Missed.is r in
-    let back = subst (λ (ks : List ℕ). IfOk c.walk_back.result (IsBack m ts ls c.args.budget ks c.in-Missed.spent.items c.args.to.now)) c.as_slice-in-Missed.ensures.value
-    (subst (λ (xs : List ℕ). IfOk c.walk_back.result (IsBack m ts ls c.args.budget c.as_slice-in-Missed.result.now xs c.args.to.now)) c.as_slice-in-Missed-2.ensures.value c.walk_back.ensures) in
-    ok_so c.walk_back.result (IsBack m ts ls c.args.budget cs c.in-Missed.spent.items c.args.to.now) (IsBetween m ts ls c.args.budget c.args.from.now c.args.to.now)
+    let back = subst (λ (ks : List ℕ). IfOk c.walk_back.result (IsAnswerBack m ts ls c.args.budget ks c.in-Missed.spent.items c.args.to.now)) c.as_slice-in-Missed.ensures.value
+    (subst (λ (xs : List ℕ). IfOk c.walk_back.result (IsAnswerBack m ts ls c.args.budget c.as_slice-in-Missed.result.now xs c.args.to.now)) c.as_slice-in-Missed-2.ensures.value c.walk_back.ensures) in
+    ok_so c.walk_back.result (IsAnswerBack m ts ls c.args.budget cs c.in-Missed.spent.items c.args.to.now) (IsAnswerBetween m ts ls c.args.budget c.args.from.now c.args.to.now)
     (decides m ts ls c.args.budget cs c.args.from.now c.args.to.now c.in_ok-near.near.items near is_map c.requires.audited c.requires.good (λ f k. found_sees m ts ls c.requires.good f k c.args.budget is_map c.requires.audited) (tells_connected m cs c.in_ok-classes.ensures.components)
     (low c.args.from.now c.requires.from) (low c.args.to.now c.requires.to) c.requires.apart c.in-Missed.spent.items missed) back

@@ -2,9 +2,9 @@ use Rattle.std.proofs.Common.{◌≡◌, ◌≢◌, ℕ, ◌<◌}
 use Rattle.sight_names.specs.declared.names.Budget.TheVariants.{Full}
 use Rattle.sight_names.specs.Found.{Found}
 use Rattle.sight_names.specs.Map.{map_of}
-use Rattle.portal_walk.specs.Walk.{SameWalk, pending, remaining}
+use Rattle.portal_walk.specs.Walk.{SameWalk, pending, sequences_left}
 use Rattle.pair_budget.specs.FoundSectors.{Extends}
-use Rattle.pair_budget.specs.Notes.{ordered, Grows}
+use Rattle.pair_budget.specs.Notes.{ordered, EntriesGrow}
 use Rattle.pair_budget.specs.Walked.{MarksFound}
 use Rattle.pair_budget.proofs.Exactly.{FindsOver}
 use Rattle.pair_budget.proofs.Through.{ThroughOver}
@@ -23,14 +23,14 @@ invariant-loop-walker g l = record {
   full : l.fn.budget ≡ Full → l.left ≡ Full;
   hears : (b : ℕ) → b ≢ l.fn.walker.source → b < l.fn.walker.plan.sectors → Found (map_of l.fn.walker.plan) l.fn.walker.mesh.triangles l.fn.walker.labels l.fn.walker.source b l.fn.budget → g.N.Notice.may_hear l.notice (ordered l.source b);
   tag : g.N.Notice.tag l.notice ≡ g.N.Notice.tag l.fn.notice;
-  kept : Grows (g.N.Notice.marks l.fn.notice) (g.N.Notice.marks l.notice);
+  kept : EntriesGrow (g.N.Notice.marks l.fn.notice) (g.N.Notice.marks l.notice);
   marks : MarksFound l.source l.found_sectors.found (g.N.Notice.marks l.fn.notice) (g.N.Notice.marks l.notice);
   claims : g.N.Notice.claims l.notice ≡ g.N.Notice.claims l.fn.notice;
   settles : g.N.Notice.may_settle l.notice ≡ g.N.Notice.may_settle l.fn.notice;
   mates : (x y : ℕ) → g.N.Notice.mates l.fn.notice x y → g.N.Notice.mates l.notice x y;
-  seen : Grows (g.N.Notice.seen l.fn.notice) (g.N.Notice.seen l.notice);
-  looks : Grows (g.N.Notice.looks l.fn.notice) (g.N.Notice.looks l.notice);
+  seen : EntriesGrow (g.N.Notice.seen l.fn.notice) (g.N.Notice.seen l.notice);
+  looks : EntriesGrow (g.N.Notice.looks l.fn.notice) (g.N.Notice.looks l.notice);
 }
 
 abbrev pub decreases-loop-walker : goal.decreases-loop-walker
-decreases-loop-walker g l = remaining l.walker
+decreases-loop-walker g l = sequences_left l.walker

@@ -1,7 +1,7 @@
 use Rattle.std.proofs.Common.{◌∙◌, subst}
 use Rattle.gate_floods.specs.RowJudge.Judged.{StandsAt}
 use Rattle.gate_floods.specs.RowJudge.Masks.{rows_of}
-use Rattle.row_trees.specs.Walkable.{scene_of}
+use Rattle.row_trees.specs.Walkable.{row_scene_of}
 use Rattle.row_trees.proofs.Thinning.{stands_thinned}
 use Rattle.row_trees.proofs.Skipping.{some_asked, both_thinned, skip_thinned, less_left}
 use Rattle.row_trees.proofs.rows.skip_unwanted.Goals as goal
@@ -24,7 +24,7 @@ meet_present-requires-in-skip c =
 
 pub skip-smaller : goal.skip-smaller
 skip-smaller c =
-    let k = scene_of c.args.terrain.now c.args.masks.now in
+    let k = row_scene_of c.args.terrain.now c.args.masks.now in
     let r = c.requires.stands in
     let i = c.skip.invariant.stands r.0 r.1 r.2 in
     less_left k c.skip.walk c.skip-in-skip.new.walk c.meet_present-in-skip.new.walk i.0 i.1 i.2 (c.is_unwanted.ensures c.skip-test.true) c.skip-in-skip.ensures.stands

@@ -1,8 +1,8 @@
 use Rattle.std.specs.Prelude.{◌≡◌}
 use Rattle.gate_floods.specs.RowJudge.Masks.{rows_of}
-use Rattle.row_trees.specs.Left.{remaining}
+use Rattle.row_trees.specs.Left.{row_walk_left}
 use Rattle.row_trees.specs.Thinner.{IsPresent}
-use Rattle.row_trees.specs.Walkable.{scene_of}
+use Rattle.row_trees.specs.Walkable.{row_scene_of}
 use Rattle.row_trees.proofs.Skipping.{HasThinned}
 use Rattle.row_trees.proofs.rows.skip_unwanted.Given as goal
 
@@ -14,4 +14,4 @@ invariant-skip l = record {
 }
 
 abbrev pub decreases-skip : goal.decreases-skip
-decreases-skip l = remaining (scene_of l.terrain l.masks) l.walk
+decreases-skip l = row_walk_left (row_scene_of l.terrain l.masks) l.walk

@@ -1,5 +1,5 @@
 use Rattle.std.proofs.Common.{sym, ◌∙◌, true≢false}
-use Rattle.sight_ray.specs.RayTrace.CrossedEdges.{portal_of}
+use Rattle.sight_ray.specs.RayTrace.CrossedEdges.{portal_crossed}
 use Rattle.sight_ray.proofs.RayTrace.WalkLemmas.{wall_there, wall_joins, no_wall}
 use Rattle.sight_ray.proofs.ray_trace.is_wall.Goals as goal
 
@@ -16,4 +16,4 @@ returns-else-line c = (
 )
 
 pub returns-in-None : goal.returns-in-None
-returns-in-None c = ((λ h. absurd (true≢false (sym h))), (λ w. absurd (no_wall c.args.plan.now c.args.number c.in-None.ensures.entry (portal_of c.args.crossed_edge) w)))
+returns-in-None c = ((λ h. absurd (true≢false (sym h))), (λ w. absurd (no_wall c.args.plan.now c.args.number c.in-None.ensures.entry (portal_crossed c.args.crossed_edge) w)))

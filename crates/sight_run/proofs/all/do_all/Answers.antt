@@ -3,8 +3,8 @@ use Rattle.std.specs.declared.alloc.Global.{Global}
 use Rattle.std.proofs.lemmas.Result.{err_from_is_err_and}
 use Rattle.wad_dir.specs.declared.parts.Wad.{Wad}
 use Rattle.wad_dir.specs.Map.{entry_names}
-use Rattle.wad_dir.specs.Wad.{WadFile, file_of, names_of}
-use Rattle.map_answers.specs.SightStatus.Answer.{Makes}
+use Rattle.wad_dir.specs.Wad.{WadFile, file_of, names_of_lumps}
+use Rattle.map_answers.specs.SightStatus.Answer.{MakesAnswer}
 use Rattle.sight_run.proofs.Whole.{asked_are_maps, directory_refused, gives_read, gives_unread, names_cause, of_names, of_stop, of_whole, stop_cause, wad_read, wad_refused, wad_unfetched}
 use Rattle.sight_run.specs.All.{AllCalls, MapsCall, maps_in, wad_in}
 use Rattle.sight_run.specs.Reply.{reply_seen}
@@ -38,11 +38,11 @@ returns-in_err-maps-clause-told g c =
     let w : WadFile = file_of c.in_ok-bytes.bytes.items c.in_ok-wad.wad in
     let read = rw c.deref.ensures.value at c.in_ok-wad.ensures.read in
     let names = rw c.deref.ensures.value at c.in_ok-wad.ensures.names in
-    let made : Makes {V = Vec (List ℕ) Global} (λ maps. maps.items) (Err c.in_err-maps.field-0.0) (maps_in (names_of w) c.args.only.now) =
-    subst (λ (ns : List (List ℕ)). Makes {V = Vec (List ℕ) Global} (λ maps. maps.items) (Err c.in_err-maps.field-0.0) (maps_in ns c.args.only.now)) (sym names) c.in_err-maps.ensures.maps in
+    let made : MakesAnswer {V = Vec (List ℕ) Global} (λ maps. maps.items) (Err c.in_err-maps.field-0.0) (maps_in (names_of_lumps w) c.args.only.now) =
+    subst (λ (ns : List (List ℕ)). MakesAnswer {V = Vec (List ℕ) Global} (λ maps. maps.items) (Err c.in_err-maps.field-0.0) (maps_in ns c.args.only.now)) (sym names) c.in_err-maps.ensures.maps in
     λ files e. rw (p.1, p.2) (gives_read (wad_in c.args.source.now.file files) w (AllCalls c.args.out.now c.args.source.now.large c.args.only.now c.args.report.now c.args.method c.args.refused) (Err c.in_err-maps.field-0.0)
     (wad_read c.args.source.now.file files c.in_ok-bytes.bytes.items w ((rw c.as_str.ensures at c.in_ok-bytes.ensures.told) files e) read)
-    (gives_unread {V = Vec (List ℕ) Global} {D = List (List ℕ)} (λ maps. maps.items) (maps_in (names_of w) c.args.only.now) (λ maps. MapsCall c.args.out.now c.args.report.now c.args.source.now.large maps c.args.method c.args.refused w) c.in_err-maps.field-0.0 made))
+    (gives_unread {V = Vec (List ℕ) Global} {D = List (List ℕ)} (λ maps. maps.items) (maps_in (names_of_lumps w) c.args.only.now) (λ maps. MapsCall c.args.out.now c.args.report.now c.args.source.now.large maps c.args.method c.args.refused w) c.in_err-maps.field-0.0 made))
 
 pub returns-in_err-maps-clause-cause : goal.returns-in_err-maps-clause-cause
 returns-in_err-maps-clause-cause g c =
@@ -64,10 +64,10 @@ returns-clause-told g c = λ files e.
     let read = rw c.deref.ensures.value at c.in_ok-wad.ensures.read in
     let names = rw c.deref.ensures.value at c.in_ok-wad.ensures.names in
     let called = rw (c.deref-2.ensures.value, c.deref-3.ensures.value) at c.make_reply.ensures.called in
-    let asked : maps_in (names_of w) c.args.only.now ≡ Ok c.in_ok-maps.maps.items = ap (λ (ns : List (List ℕ)). maps_in ns c.args.only.now) names ∙ c.in_ok-maps.ensures.maps in
+    let asked : maps_in (names_of_lumps w) c.args.only.now ≡ Ok c.in_ok-maps.maps.items = ap (λ (ns : List (List ℕ)). maps_in ns c.args.only.now) names ∙ c.in_ok-maps.ensures.maps in
     gives_read (wad_in c.args.source.now.file files) w (AllCalls c.args.out.now c.args.source.now.large c.args.only.now c.args.report.now c.args.method c.args.refused) (reply_seen c.make_reply.result)
     (wad_read c.args.source.now.file files c.in_ok-bytes.bytes.items w ((rw c.as_str.ensures at c.in_ok-bytes.ensures.told) files e) read)
-    (gives_read (maps_in (names_of w) c.args.only.now) c.in_ok-maps.maps.items (λ maps. MapsCall c.args.out.now c.args.report.now c.args.source.now.large maps c.args.method c.args.refused w) (reply_seen c.make_reply.result) asked called)
+    (gives_read (maps_in (names_of_lumps w) c.args.only.now) c.in_ok-maps.maps.items (λ maps. MapsCall c.args.out.now c.args.report.now c.args.source.now.large maps c.args.method c.args.refused w) (reply_seen c.make_reply.result) asked called)
 
 pub returns-clause-cause : goal.returns-clause-cause
 returns-clause-cause g c = stop_cause c.args.refused _ _ c.make_reply.result c.make_reply.ensures.refusals c.in_ok-bytes.ensures.cause

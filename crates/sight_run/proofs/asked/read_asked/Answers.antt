@@ -3,8 +3,8 @@ use Rattle.std.specs.declared.alloc.Global.{Global}
 use Rattle.std.proofs.lemmas.Result.{err_from_is_err_and}
 use Rattle.wad_dir.specs.declared.parts.Wad.{Wad}
 use Rattle.wad_dir.specs.Map.{entry_names}
-use Rattle.wad_dir.specs.Wad.{WadFile, file_of, names_of}
-use Rattle.map_answers.specs.SightStatus.Answer.{Makes}
+use Rattle.wad_dir.specs.Wad.{WadFile, file_of, names_of_lumps}
+use Rattle.map_answers.specs.SightStatus.Answer.{MakesAnswer}
 use Rattle.sight_run.proofs.Verifying.{maps_read, maps_unread, names_asked, unfetched_asked, unread_asked, wad_unread}
 use Rattle.sight_run.proofs.Whole.{asked_are_maps, directory_refused, names_cause, wad_read, wad_refused, wad_unfetched}
 use Rattle.sight_run.specs.All.{maps_in}
@@ -42,8 +42,8 @@ returns-in_err-maps-clause-told g c =
     let w : WadFile = file_of c.in_ok-bytes.bytes.items c.in_ok-wad.wad in
     let read = rw c.deref.ensures.value at c.in_ok-wad.ensures.read in
     let names = rw c.deref.ensures.value at c.in_ok-wad.ensures.names in
-    let made : Makes {V = Vec (List ℕ) Global} (λ maps. maps.items) (Err s) (maps_in (names_of w) c.args.only.now) =
-    subst (λ (ns : List (List ℕ)). Makes {V = Vec (List ℕ) Global} (λ maps. maps.items) (Err s) (maps_in ns c.args.only.now)) (sym names) c.in_err-maps.ensures.maps in
+    let made : MakesAnswer {V = Vec (List ℕ) Global} (λ maps. maps.items) (Err s) (maps_in (names_of_lumps w) c.args.only.now) =
+    subst (λ (ns : List (List ℕ)). MakesAnswer {V = Vec (List ℕ) Global} (λ maps. maps.items) (Err s) (maps_in ns c.args.only.now)) (sym names) c.in_err-maps.ensures.maps in
     λ files e. rw (p.1, p.2) (maps_unread {V = Vec (List ℕ) Global} (λ maps. maps.items) c.args.wad.now c.args.only.now files w s
     (wad_read c.args.wad.now files c.in_ok-bytes.bytes.items w (c.in_ok-bytes.ensures.told files e) read) made)
 

@@ -1,7 +1,7 @@
 use Rattle.std.proofs.Common.{ℕ, Ok, subst}
 use Rattle.std.proofs.lemmas.Result.{err_from_is_err_and}
-use Rattle.map_answers.specs.SightStatus.Answer.{Gives}
-use Rattle.map_answers.specs.Views.{found}
+use Rattle.map_answers.specs.SightStatus.Answer.{GivesCalled}
+use Rattle.map_answers.specs.Views.{located_map}
 use Rattle.draw_answers.specs.Drawn.{drawn_answer}
 use Rattle.sight_run.specs.Draw.{HasOneDrawing, ViewCalls}
 use Rattle.sight_run.proofs.draw.draw_named.Goals as goal
@@ -13,5 +13,5 @@ returns-in_err-places-clause-judged c =
 
 pub returns-clause-judged : goal.returns-clause-judged
 returns-clause-judged c =
-    let f = found c.args.input.now in
-    λ out. subst (λ (k : ℕ). Gives (HasOneDrawing c.args.view (Ok f)) (ViewCalls (record { text = c.args.name.now; places = k }) out c.args.view f) (drawn_answer out c.draw_view.result)) c.in_ok-places.ensures.places (c.draw_view.ensures.judged out)
+    let f = located_map c.args.input.now in
+    λ out. subst (λ (k : ℕ). GivesCalled (HasOneDrawing c.args.view (Ok f)) (ViewCalls (record { text = c.args.name.now; places = k }) out c.args.view f) (drawn_answer out c.draw_view.result)) c.in_ok-places.ensures.places (c.draw_view.ensures.judged out)

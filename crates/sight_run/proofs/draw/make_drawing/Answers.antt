@@ -1,7 +1,7 @@
 use Rattle.std.proofs.Common.{Ok, sym, subst}
 use Rattle.std.proofs.lemmas.Result.{err_from_is_err_and}
-use Rattle.map_answers.specs.SightStatus.Answer.{Answer, Gives}
-use Rattle.map_answers.specs.Views.{found}
+use Rattle.map_answers.specs.SightStatus.Answer.{Answer, GivesCalled}
+use Rattle.map_answers.specs.Views.{located_map}
 use Rattle.sight_run.specs.Draw.{DrawCalls, HasOneDrawing}
 use Rattle.sight_run.proofs.draw.make_drawing.Goals as goal
 
@@ -12,4 +12,4 @@ returns-in_err-drawn-clause-called c =
 
 pub returns-in-Ok-clause-called : goal.returns-in-Ok-clause-called
 returns-in-Ok-clause-called c =
-    subst (λ (answer : Answer). Gives (HasOneDrawing c.args.view (Ok (found c.args.input.now))) (DrawCalls c.args.name.now c.args.out.now c.args.view (found c.args.input.now)) (Ok answer)) (sym c.in-Ok.ensures.replied) (c.in_ok-drawn.ensures.judged c.args.out.now)
+    subst (λ (answer : Answer). GivesCalled (HasOneDrawing c.args.view (Ok (located_map c.args.input.now))) (DrawCalls c.args.name.now c.args.out.now c.args.view (located_map c.args.input.now)) (Ok answer)) (sym c.in-Ok.ensures.replied) (c.in_ok-drawn.ensures.judged c.args.out.now)

@@ -1,12 +1,12 @@
 use Rattle.map_answers.specs.SightStatus.Answer.{line_answer}
-use Rattle.map_answers.specs.Views.{found}
+use Rattle.map_answers.specs.Views.{located_map}
 use Rattle.sight_run.proofs.Reporting.{line_audit}
 use Rattle.sight_run.proofs.on_map.line_on.Goals as goal
 
 pub returns-in-Audit-clause-called : goal.returns-in-Audit-clause-called
 returns-in-Audit-clause-called c =
     let x = c.in-Audit in
-    rw x.is (line_audit x.wad x.map x.report (found c.args.input.now) (line_answer c.judge_audit.result) (rw x.is at c.requires.line) c.judge_audit.ensures.judged)
+    rw x.is (line_audit x.wad x.map x.report (located_map c.args.input.now) (line_answer c.judge_audit.result) (rw x.is at c.requires.line) c.judge_audit.ensures.judged)
 
 pub returns-in-Trace-clause-called : goal.returns-in-Trace-clause-called
 returns-in-Trace-clause-called c = rw c.in-Trace.is (λ files heard. c.judge_trace.ensures.judged)

@@ -1,7 +1,7 @@
 use Rattle.std.proofs.Common.{List, Ok, sym, ap, subst}
 use Rattle.std.proofs.lemmas.Result.{err_from_is_err_and}
 use Rattle.map_answers.specs.SightStatus.Answer.{Answer, IsTheAnswer, Written}
-use Rattle.map_answers.specs.Views.{found}
+use Rattle.map_answers.specs.Views.{located_map}
 use Rattle.sight_run.specs.Obeys.{CallsOn, HasOneOn, WritesEach}
 use Rattle.sight_run.specs.Reply.{roles_of}
 use Rattle.sight_run.proofs.Verifying.{ends_right}
@@ -17,7 +17,7 @@ pub returns : goal.returns
 returns c =
     let said = c.in_ok-line_on.ensures in
     record {
-      called = λ files heard. subst (λ (answer : Answer). IsTheAnswer (HasOneOn c.args.order.now (Ok (found c.args.input.now))) (CallsOn c.args.order.now files heard (found c.args.input.now)) (Ok answer)) (sym c.line_alone.ensures.replied) (said.called files heard);
+      called = λ files heard. subst (λ (answer : Answer). IsTheAnswer (HasOneOn c.args.order.now (Ok (located_map c.args.input.now))) (CallsOn c.args.order.now files heard (located_map c.args.input.now)) (Ok answer)) (sym c.line_alone.ensures.replied) (said.called files heard);
       refusals = tt;
       past = tt;
       proper = tt;

@@ -1,6 +1,6 @@
 use native.Mathlib.Omega.{arith}
 use Rattle.std.proofs.Common.{[], refl}
-use Rattle.map_answers.specs.Views.{found}
+use Rattle.map_answers.specs.Views.{located_map}
 use Rattle.sight_run.proofs.Building.{gives_plain}
 use Rattle.sight_run.proofs.CheckReplies.{check_early, check_proper, check_refusals}
 use Rattle.sight_run.proofs.OnMap.{alone_of, gives_alone, past_cause, past_unstored, unheard_alone}
@@ -36,7 +36,7 @@ returns-in_default g c =
     let alone = alone_of c.args.order.now c.requires.asks (λ wad name cert spelled e. c.in_default.not-Check wad name cert spelled e) (λ wad name out cert report workers method e. c.in_default.not-Build wad name out cert report workers method e) in
     record {
       told = λ files e. gives_alone c.args.order.now _ _ _ _ alone (c.answer_on.ensures.called files _);
-      heard = unheard_alone c.args.order.now (found c.args.input) _ _ alone refl;
+      heard = unheard_alone c.args.order.now (located_map c.args.input) _ _ alone refl;
       files = refl;
       begun = refl;
       counts = record { read_faults = omega arith; write_faults = omega arith; absents = omega arith };

@@ -2,12 +2,12 @@ use Rattle.std.proofs.Common.{◌≡◌, ℕ, ◌<◌, subst, sym, ap, ◌∙◌
 use Rattle.std.specs.Prelude.{IfOk}
 use Rattle.std.specs.List.{Contains}
 use Rattle.pair_budget.specs.declared.results.SourceResult.{SourceResult}
-use Rattle.pair_budget.specs.Notes.{ordered, Grows}
+use Rattle.pair_budget.specs.Notes.{ordered, EntriesGrow}
 use Rattle.sight_workers.specs.declared.desk.BoardSeat.{BoardSeat}
 use Rattle.sight_workers.specs.declared.job.Job.{Job}
 use Rattle.sight_workers.specs.declared.watch.Place.{Place}
 use Rattle.sight_workers.specs.Board.{task_for}
-use Rattle.sight_workers.specs.Walks.{IsMarkedBy, IsWalked}
+use Rattle.sight_workers.specs.Walks.{IsMarkedBy, IsSourceWalked}
 use Rattle.sight_workers.proofs.Walks.{told_pair, ok_weaker, ok_walked}
 use Rattle.sight_workers.proofs.serving.walk_watched.Goals as goal
 use Rattle.sight_workers.proofs.serving.walk_watched.Goals.{After-seat-1}
@@ -23,13 +23,13 @@ walk_source_over-result-requires-clause-hears c = λ b other below f.
     c.args.source b (subst (λ (n : ℕ). c.args.source < n) (sym desk.terms.0 ∙ ap (λ (j : Job). j.plan.now.sectors) (sym c.requires.job)) c.requires.components.1) other below f
 
 pub returns-clause-seen : goal.returns-clause-seen
-returns-clause-seen c = subst (λ (s : BoardSeat). Grows c.args.seat.now.seat.me.0.seen s.seat.me.0.seen) (sym (same c)) c.walk_source_over-result.ensures.seen
+returns-clause-seen c = subst (λ (s : BoardSeat). EntriesGrow c.args.seat.now.seat.me.0.seen s.seat.me.0.seen) (sym (same c)) c.walk_source_over-result.ensures.seen
 
 pub returns-clause-looks : goal.returns-clause-looks
-returns-clause-looks c = subst (λ (s : BoardSeat). Grows c.args.seat.now.seat.me.0.looks s.seat.me.0.looks) (sym (same c)) c.walk_source_over-result.ensures.looks
+returns-clause-looks c = subst (λ (s : BoardSeat). EntriesGrow c.args.seat.now.seat.me.0.looks s.seat.me.0.looks) (sym (same c)) c.walk_source_over-result.ensures.looks
 
 pub returns-clause-kept : goal.returns-clause-kept
-returns-clause-kept c = subst (λ (s : BoardSeat). Grows c.args.seat.now.seat.me.0.marks s.seat.me.0.marks) (sym (same c)) c.walk_source_over-result.ensures.kept
+returns-clause-kept c = subst (λ (s : BoardSeat). EntriesGrow c.args.seat.now.seat.me.0.marks s.seat.me.0.marks) (sym (same c)) c.walk_source_over-result.ensures.kept
 
 pub returns-clause-marks : goal.returns-clause-marks
 returns-clause-marks c =
@@ -42,5 +42,5 @@ returns-clause-all c =
 pub returns-clause-walked : goal.returns-clause-walked
 returns-clause-walked c =
     let e = c.walk_source_over-result.ensures in
-    subst (λ (j : Job). IfOk c.walk_source_over-result.result (IsWalked (task_for j c.args.desk.now.table.shared.key.workers) c.args.source)) c.requires.job
+    subst (λ (j : Job). IfOk c.walk_source_over-result.result (IsSourceWalked (task_for j c.args.desk.now.table.shared.key.workers) c.args.source)) c.requires.job
     (ok_walked (task_for c.args.job.now c.args.desk.now.table.shared.key.workers) c.args.source c.walk_source_over-result.result e.source e.found e.outcome e.shown e.exact e.rays)

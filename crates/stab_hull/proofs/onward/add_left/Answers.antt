@@ -6,7 +6,7 @@ use Rattle.sight_names.specs.Splitting.{EndPoints}
 use Rattle.stab_hull.specs.declared.hull.Hull.{Hull}
 use Rattle.stab_hull.specs.declared.onward.Told.TheVariants as told
 use Rattle.stab_hull.specs.Portals.{portals_of}
-use Rattle.stab_hull.specs.Sleeves.{HasLastRight, TakesLeft, GoesOn, frames_of}
+use Rattle.stab_hull.specs.Sleeves.{HasLastRight, TakesLeft, GoesOnWithNote, frames_of}
 use Rattle.stab_hull.specs.Stacks.{IsTopCone}
 use Rattle.stab_hull.specs.Turning.{MovesLeft}
 use Rattle.stab_hull.proofs.HistoryLemmas.{as_many}
@@ -45,13 +45,13 @@ returns g c =
     let frame = c.frame_to_left-frame.ensures in
     elim c.if-moves.branch [
       | then-moves+in-Ok w ↦
-          subst (λ (h : Hull). GoesOn xs c.args.note p c.push_reserved.new.self.items h.lefts h.rights h.cones.items (Ok told.Open)) (sym w.hull-is)
+          subst (λ (h : Hull). GoesOnWithNote xs c.args.note p c.push_reserved.new.self.items h.lefts h.rights h.cones.items (Ok told.Open)) (sym w.hull-is)
           (goes_noted xs c.push_reserved.new.self.items x p c.push.new.self rs w.stack_left.new.cones.items longer
           (goes_left fs ls rs cs w.stack_left.new.cones.items c.requires.sleeve few w.in-Ok.ensures.kept (frames_of c.push_reserved.new.self.items) c.args.right c.args.new c.frame_to_left-frame.result c.push.new.self c.requires.last (c.requires.code ∙ sym many) c.in_ok-push.ensures.ok
           (subst (λ (ys : List EndAt). IsTopCone ls ys cs → IsTopCone (ls ++ c.args.new ∷ []) ys w.stack_left.new.cones.items) w.as_slice-rights.ensures.ends (w.in-Ok.ensures.top ls) (whole fs ls rs cs c.requires.sleeve some).cone)
           (frame ∙ ap (λ (h : Hull). framed c.args.new.at c.args.right h.lefts h.rights h.cones.items) w.hull-is) grown))
       | else-moves w ↦
-          subst (λ (h : Hull). GoesOn xs c.args.note p c.push_reserved.new.self.items h.lefts h.rights h.cones.items (Ok told.Open)) (sym w.hull-is)
+          subst (λ (h : Hull). GoesOnWithNote xs c.args.note p c.push_reserved.new.self.items h.lefts h.rights h.cones.items (Ok told.Open)) (sym w.hull-is)
           (goes_noted xs c.push_reserved.new.self.items x p c.push.new.self rs cs longer
           (goes_left fs ls rs cs cs c.requires.sleeve few (refl, omega arith) (frames_of c.push_reserved.new.self.items) c.args.right c.args.new c.frame_to_left-frame.result c.push.new.self c.requires.last (c.requires.code ∙ sym many) c.in_ok-push.ensures.ok
           (subst (TakesLeft ls rs cs c.args.new) w.if-moves.false c.requires.takes)

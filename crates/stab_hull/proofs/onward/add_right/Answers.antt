@@ -6,7 +6,7 @@ use Rattle.sight_names.specs.Splitting.{EndPoints}
 use Rattle.stab_hull.specs.declared.hull.Hull.{Hull}
 use Rattle.stab_hull.specs.declared.onward.Told.TheVariants as told
 use Rattle.stab_hull.specs.Portals.{portals_of}
-use Rattle.stab_hull.specs.Sleeves.{HasLastLeft, TakesRight, GoesOn, frames_of}
+use Rattle.stab_hull.specs.Sleeves.{HasLastLeft, TakesRight, GoesOnWithNote, frames_of}
 use Rattle.stab_hull.specs.Stacks.{IsTopCone}
 use Rattle.stab_hull.specs.Turning.{MovesRight}
 use Rattle.stab_hull.proofs.HistoryLemmas.{as_many}
@@ -45,13 +45,13 @@ returns g c =
     let frame = c.frame_to_right-frame.ensures in
     elim c.if-moves.branch [
       | then-moves+in-Ok w ↦
-          subst (λ (h : Hull). GoesOn xs c.args.note p c.push_reserved.new.self.items h.lefts h.rights h.cones.items (Ok told.Open)) (sym w.hull-is)
+          subst (λ (h : Hull). GoesOnWithNote xs c.args.note p c.push_reserved.new.self.items h.lefts h.rights h.cones.items (Ok told.Open)) (sym w.hull-is)
           (goes_noted xs c.push_reserved.new.self.items x p ls c.push.new.self w.stack_right.new.cones.items longer
           (goes_right fs ls rs cs w.stack_right.new.cones.items c.requires.sleeve few w.in-Ok.ensures.kept (frames_of c.push_reserved.new.self.items) c.args.left c.args.new c.frame_to_right-frame.result c.push.new.self c.requires.last (c.requires.code ∙ ap (λ n. n + RIGHT_END) (sym many)) c.in_ok-push.ensures.ok
           (subst (λ (ys : List EndAt). IsTopCone ys rs cs → IsTopCone ys (rs ++ c.args.new ∷ []) w.stack_right.new.cones.items) w.as_slice-lefts.ensures.ends (w.in-Ok.ensures.top rs) (whole fs ls rs cs c.requires.sleeve some).cone)
           (frame ∙ ap (λ (h : Hull). framed c.args.left c.args.new.at h.lefts h.rights h.cones.items) w.hull-is) grown))
       | else-moves w ↦
-          subst (λ (h : Hull). GoesOn xs c.args.note p c.push_reserved.new.self.items h.lefts h.rights h.cones.items (Ok told.Open)) (sym w.hull-is)
+          subst (λ (h : Hull). GoesOnWithNote xs c.args.note p c.push_reserved.new.self.items h.lefts h.rights h.cones.items (Ok told.Open)) (sym w.hull-is)
           (goes_noted xs c.push_reserved.new.self.items x p ls c.push.new.self cs longer
           (goes_right fs ls rs cs cs c.requires.sleeve few (refl, omega arith) (frames_of c.push_reserved.new.self.items) c.args.left c.args.new c.frame_to_right-frame.result c.push.new.self c.requires.last (c.requires.code ∙ ap (λ n. n + RIGHT_END) (sym many)) c.in_ok-push.ensures.ok
           (subst (TakesRight ls rs cs c.args.new) w.if-moves.false c.requires.takes)

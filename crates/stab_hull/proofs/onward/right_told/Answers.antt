@@ -2,7 +2,7 @@ use Rattle.std.proofs.Common.{arith, ◌≡◌, ◌+◌, length, sym, ap, ◌∙
 use Rattle.std.proofs.lemmas.Grind.{common_steps}
 use Rattle.sight_names.specs.declared.limits.TheConstants.{RIGHT_END}
 use Rattle.geom_exact.specs.declared.extreme_lines.cone.Cone.{Cone}
-use Rattle.geom_exact.specs.ExtremeLines.Spans.{pair_of}
+use Rattle.geom_exact.specs.ExtremeLines.Spans.{end_pair_of}
 use Rattle.stab_hull.specs.Portals.{portals_of, IsConeOf}
 use Rattle.stab_hull.specs.Sleeves.{frames_of}
 use Rattle.stab_hull.proofs.Barring.{lines, right_before}
@@ -31,7 +31,7 @@ pub right_turn-requires-clause-later : goal.right_turn-requires-clause-later
 right_turn-requires-clause-later g c =
     let k : c.len.result ≡ length c.args.hull.now.cones.items = (let e = c.len.ensures in grind (arith, common_steps)) in
     let cone = subst (λ (d : Cone). IsConeOf (portals_of (frames_of c.args.portals.now)) d) c.in-Open.is (read_cone (frames_of c.args.portals.now) c.args.hull.now.lefts c.args.hull.now.rights c.args.hull.now.cones.items c.len.result c.index.result.now c.requires.sleeve (let l = c.requires.there in let many = as_many_frames c.args.portals.now in omega (arith, l, many)) k c.index.ensures) in
-    let b = right_before (portals_of (frames_of c.args.portals.now)) c.in-Open.wedge cone (pair_of c.in-Open.wedge.first) cone.pairs.first in
+    let b = right_before (portals_of (frames_of c.args.portals.now)) c.in-Open.wedge cone (end_pair_of c.in-Open.wedge.first) cone.pairs.first in
     let m = as_many (frames_of c.args.portals.now) in
     let e = c.requires.code in
     let many = as_many_frames c.args.portals.now in
@@ -41,7 +41,7 @@ pub right_turn-requires-clause-later_too : goal.right_turn-requires-clause-later
 right_turn-requires-clause-later_too g c =
     let k : c.len.result ≡ length c.args.hull.now.cones.items = (let e = c.len.ensures in grind (arith, common_steps)) in
     let cone = subst (λ (d : Cone). IsConeOf (portals_of (frames_of c.args.portals.now)) d) c.in-Open.is (read_cone (frames_of c.args.portals.now) c.args.hull.now.lefts c.args.hull.now.rights c.args.hull.now.cones.items c.len.result c.index.result.now c.requires.sleeve (let l = c.requires.there in let many = as_many_frames c.args.portals.now in omega (arith, l, many)) k c.index.ensures) in
-    let b = right_before (portals_of (frames_of c.args.portals.now)) c.in-Open.wedge cone (pair_of c.in-Open.wedge.second) cone.pairs.second in
+    let b = right_before (portals_of (frames_of c.args.portals.now)) c.in-Open.wedge cone (end_pair_of c.in-Open.wedge.second) cone.pairs.second in
     let m = as_many (frames_of c.args.portals.now) in
     let e = c.requires.code in
     let many = as_many_frames c.args.portals.now in

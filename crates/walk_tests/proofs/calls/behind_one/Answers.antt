@@ -4,5 +4,5 @@ use Rattle.sight_names.specs.Splitting.{EndPoints}
 use Rattle.stab_hull.specs.Sleeves.{HasLastRight}
 use Rattle.walk_tests.proofs.calls.behind_one.Goals as goal
 
-pub by_right-requires-clause-last : goal.by_right-requires-clause-last
-by_right-requires-clause-last c = subst (λ (es : List EndPoints). HasLastRight es c.args.right) (sym c.in_ok-begin.ensures.ok) (_, refl, refl)
+pub by_new_left-requires-clause-last : goal.by_new_left-requires-clause-last
+by_new_left-requires-clause-last c = subst (λ (es : List EndPoints). HasLastRight es c.args.right) (sym c.in_ok-begin.ensures.ok) (_, refl, refl)

@@ -1,6 +1,6 @@
 use Rattle.std.proofs.Common.{◌∙◌}
 use Rattle.sight_names.specs.Map.{map_of}
-use Rattle.cert_format.specs.Sizes.{sizes_of}
+use Rattle.cert_format.specs.Sizes.{sizes_of_plan}
 use Rattle.group_job.proofs.TwoSizes.{sizes_are}
 use Rattle.whole_wad.proofs.Deciding.{lists_within}
 use Rattle.whole_wad.proofs.building.build_within.Goals as goal
@@ -15,7 +15,7 @@ returns-in-Ok-clause-built g c =
       sectors = e.sectors;
       table_is_whole = c.is_whole.ensures.whole;
       are_bytes = c.is_whole.ensures.bytes;
-      sizes = sizes_are (sizes_of c.args.plan.now) cert e.sizes ∙ c.has_sizes_of_map.ensures;
+      sizes = sizes_are (sizes_of_plan c.args.plan.now) cert e.sizes ∙ c.has_sizes_of_map.ensures;
       in_order = e.in_order;
       accepted = e.accepted;
       symmetric = e.symmetric;

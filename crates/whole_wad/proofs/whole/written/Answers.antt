@@ -4,7 +4,7 @@ use Rattle.wad_dir.specs.Wad.{file_of}
 use Rattle.wad_dir.specs.WadRewrite.Rewrite.{printed}
 use Rattle.wad_dir.specs.declared.all_maps.parts.Change.{Change}
 use Rattle.wad_dir.specs.AllMaps.All.{HasInOrder, names_changed, with_all}
-use Rattle.wad_dir.specs.AllMaps.Maps.{maps_of}
+use Rattle.wad_dir.specs.AllMaps.Maps.{maps_in_names}
 use Rattle.wad_dir.proofs.AllMaps.InOrder.{in_order_through}
 use Rattle.whole_wad.specs.declared.outcomes.MapOutcome.{MapOutcome}
 use Rattle.whole_wad.specs.Outcomes.{changes_of, tables_of}
@@ -15,8 +15,8 @@ pub with_rejects-requires-clause-among : goal.with_rejects-requires-clause-among
 with_rejects-requires-clause-among c =
     let os = c.args.maps.outcomes.items in
     let are : c.deref-2.result.now ≡ changes_of os = c.deref-2.ensures.value ∙ c.in_ok-changes.ensures ∙ ap changes_of c.deref.ensures.value in
-    subst (λ (cs : List Change). HasInOrder (maps_of (entry_names c.args.wad.now.entries)) (names_changed cs)) (sym are)
-    (in_order_through (maps_of (entry_names c.args.wad.now.entries)) _ (names_changed (changes_of os)) c.requires.among (changed_in_order os))
+    subst (λ (cs : List Change). HasInOrder (maps_in_names (entry_names c.args.wad.now.entries)) (names_changed cs)) (sym are)
+    (in_order_through (maps_in_names (entry_names c.args.wad.now.entries)) _ (names_changed (changes_of os)) c.requires.among (changed_in_order os))
 
 pub overflow_sub-result : goal.overflow_sub-result
 overflow_sub-result c =

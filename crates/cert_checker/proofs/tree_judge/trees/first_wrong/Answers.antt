@@ -4,7 +4,7 @@ use Rattle.std.specs.Option.{is_some}
 use Rattle.math_base.proofs.Options.{none_where_not_some}
 use Rattle.cert_checker.specs.TreeJudge.Roots.{first_at}
 use Rattle.cert_checker.specs.TreeJudge.Path.{root_pending}
-use Rattle.cert_checker.specs.TreeJudge.Whole.{IsFirstWrong}
+use Rattle.cert_checker.specs.TreeJudge.Whole.{IsFirstWrongNode}
 use Rattle.cert_checker.proofs.TreeJudge.Answering.{IsFollowed, follows_more, wrong_node, missing_node, all_answered}
 use Rattle.cert_checker.proofs.tree_judge.trees.first_wrong.Goals as goal
 
@@ -56,7 +56,7 @@ returns-then-is_some-clause-wrong c = λ room to_wait. record {
       let t = c.args.tree.now in
       let l = c.loop-number in
       let some : (place : ℕ) × (l.follow.asked ≡ Some place) = some_asked l.follow.asked c.if-is_some.ensures in
-      λ es chain. subst (IsFirstWrong xs t.source (map root_pending es) t.nodes) (sym c.len-count.ensures)
+      λ es chain. subst (IsFirstWrongNode xs t.source (map root_pending es) t.nodes) (sym c.len-count.ensures)
       (missing_node xs roots first t.source t.nodes c.args.reached.now l.node-iterator l.number some.0 l.path l.waits l.follow l.reached c.in-None.ensures.steps.0 l.invariant.followed some.1 es chain);
 }
 

@@ -3,7 +3,7 @@ use Rattle.std.specs.Prelude.{MatchOption}
 use Rattle.sight_names.specs.declared.faults.CertFault.{CertFault}
 use Rattle.certificates.specs.declared.cert_parts.part.Part.{Part}
 use Rattle.certificates.specs.CertParts.Left.{parts_left, put_before}
-use Rattle.cert_judge.specs.Intake.{AreRefused, IsGoingOn}
+use Rattle.cert_judge.specs.Intake.{AreRefusedListing, IsGoingOn}
 use Rattle.cert_judge.proofs.Intakes.{all_taken, fault_taken, part_taken}
 use Rattle.cert_judge.proofs.intake.Intake.take_one.Goals as goal
 
@@ -28,4 +28,4 @@ returns-in-Ok-None-default-clause-all c = λ p t bytes w none.
     let new = record c.take_nodes-rest.new.self { reader = c.next.new.self } in
     let on : IsGoingOn p t bytes [] new = all_taken p t bytes c.take_nodes-rest.result.now c.take_nodes-rest.new.self (behind_nodes.heard p t bytes w) x.field-0-1.now new
     (λ more. x.ensures.part behind_nodes.countable more ∙ ap (λ (o : Option Part). put_before o (parts_left c.next.new.self (x.field-0-1.now ++ more))) x.field-0-0-is) (x.ensures.used x.field-0-0-is) (x.ensures.given behind_nodes.countable) refl in
-    subst (λ (o : Option CertFault). MatchOption o (IsGoingOn p t bytes [] new) (AreRefused p bytes)) (sym (behind_nodes.still ∙ c.requires.on)) on
+    subst (λ (o : Option CertFault). MatchOption o (IsGoingOn p t bytes [] new) (AreRefusedListing p bytes)) (sym (behind_nodes.still ∙ c.requires.on)) on

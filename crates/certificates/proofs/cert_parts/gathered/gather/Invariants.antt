@@ -1,5 +1,5 @@
 use Rattle.std.proofs.Common.{◌≡◌, length}
-use Rattle.certificates.specs.CertParts.Gathered.{gathered_from, nothing}
+use Rattle.certificates.specs.CertParts.Gathered.{gathered_from, nothing_gathered}
 use Rattle.certificates.specs.CertParts.Left.{IsCountable}
 use Rattle.certificates.proofs.cert_parts.gathered.gather.Given as goal
 
@@ -9,5 +9,5 @@ decreases-rest l = length l.rest
 abbrev pub invariant-rest : goal.invariant-rest
 invariant-rest l = record {
   countable : IsCountable l.reader l.rest;
-  same : gathered_from nothing l.initial.reader l.bytes ≡ gathered_from l.parts l.reader l.rest;
+  same : gathered_from nothing_gathered l.initial.reader l.bytes ≡ gathered_from l.parts l.reader l.rest;
 }

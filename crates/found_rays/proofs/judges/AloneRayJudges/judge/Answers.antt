@@ -1,5 +1,5 @@
 use Rattle.std.proofs.lemmas.Result.{IfOk-weaker}
-use Rattle.task_crew.specs.Done.{AreDone}
+use Rattle.task_crew.specs.Done.{AreTasksDone}
 use Rattle.found_rays.specs.Rays.{AreFoundIn, ArePartsFound}
 use Rattle.found_rays.proofs.judges.AloneRayJudges.judge.Goals as goal
 
@@ -10,5 +10,5 @@ pub returns : goal.returns
 returns c =
     let p = c.args.parts.now.over.now.plan in
     let rays = c.args.parts.now.rays.now in
-    IfOk-weaker c.in_turn.result (λ v. AreDone (AreFoundIn p rays) c.parts_of.result v.items) (λ v. ArePartsFound p rays v.items)
+    IfOk-weaker c.in_turn.result (λ v. AreTasksDone (AreFoundIn p rays) c.parts_of.result v.items) (λ v. ArePartsFound p rays v.items)
     (λ v done. record { count = c.parts_of.result; enough = c.parts_of.ensures.enough; done = done }) c.in_turn.ensures

@@ -1,6 +1,6 @@
 use Rattle.std.proofs.Common.{◌≡◌, ℕ, List, Option, true, refl, sym, ◌∙◌, ap, subst}
 use Rattle.gate_floods.specs.RowJudge.Path.{HasPassedTo, EntersThrough}
-use Rattle.gate_floods.specs.RowJudge.Words.{is_away, row_at}
+use Rattle.gate_floods.specs.RowJudge.Words.{is_away, row_in_words}
 use Rattle.gate_floods.proofs.RowJudge.Following.{further, opened}
 use Rattle.gate_floods.specs.RowJudge.Masks.{rows_of}
 use Rattle.gate_floods.proofs.row_judge.follow.answer_open.Goals as goal
@@ -23,5 +23,5 @@ returns-clause-answered c = λ first _.
     let x = c.in-Some-get.edge.now in
     opened xs ms source first roots path rows waits f middle behind new c.in-Some.place at c.enter.new.follow asked x c.in-Some.is (sym c.in-Some-get.ensures) (c.if-not-put.ensures.put refl)
     (subst (λ (o : Option ℕ). HasPassedTo ms rows f.row c.in-Some.place behind o) c.in-Some-2.is c.in_ok-row.ensures)
-    (subst (λ (us : List ℕ). is_away us x.sector ≡ true) (c.part.ensures ∙ ap (λ (us : List ℕ). row_at us ms.width at) c.deref.ensures.value) c.if-holds.ensures)
+    (subst (λ (us : List ℕ). is_away us x.sector ≡ true) (c.part.ensures ∙ ap (λ (us : List ℕ). row_in_words us ms.width at) c.deref.ensures.value) c.if-holds.ensures)
     (subst (λ (us : List ℕ). EntersThrough xs ms source first roots middle us waits (further xs ms source first roots path rows waits f at) x new c.enter.new.follow asked) c.deref-2.ensures.value (c.in_ok-follow.ensures first middle))

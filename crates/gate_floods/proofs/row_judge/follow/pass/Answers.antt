@@ -2,7 +2,7 @@ use Rattle.std.proofs.Common.{◌≡◌, ◌+◌, ◌++◌, List, ℕ, length, t
 use Rattle.cert_checker.proofs.TreeJudge.Noting.{stored}
 use Rattle.gate_floods.specs.RowJudge.Masks.{rows_of}
 use Rattle.gate_floods.specs.RowJudge.Path.{HasPassed, HasRoomFor}
-use Rattle.gate_floods.specs.RowJudge.Words.{both_words, row_at}
+use Rattle.gate_floods.specs.RowJudge.Words.{both_words, row_in_words}
 use Rattle.gate_floods.proofs.RowJudge.Following.{passed_gate}
 use Rattle.gate_floods.proofs.row_judge.follow.pass.Goals as goal
 
@@ -20,4 +20,4 @@ returns c =
     subst (λ (us : List ℕ). HasPassed ms rows row c.args.edge us (row + w)) (sym back)
     (passed_gate ms rows mid.items new row c.args.edge c.in-Some.place (sym c.in-Some.ensures) (subst (HasRoomFor rows row w mid.items) c.if-not-branch.false c.in_ok-has_room.ensures)
     (c.put_both.ensures.len ∙ ap (λ (us : List ℕ). length us) value) (c.put_both.ensures.kept ∙ ap (take (row + w)) value)
-    (c.put_both.ensures.put ∙ ap (λ (us : List ℕ). both_words (row_at us w row) c.part-mask.result.now) value ∙ ap (λ (us : List ℕ). both_words (row_at mid.items w row) us) c.part-mask.ensures))
+    (c.put_both.ensures.put ∙ ap (λ (us : List ℕ). both_words (row_in_words us w row) c.part-mask.result.now) value ∙ ap (λ (us : List ℕ). both_words (row_in_words mid.items w row) us) c.part-mask.ensures))

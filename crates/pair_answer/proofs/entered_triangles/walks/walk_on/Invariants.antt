@@ -1,5 +1,5 @@
 use Rattle.std.proofs.Common.{◌≡◌, length}
-use Rattle.portal_walk.specs.Walk.{SameWalk, remaining}
+use Rattle.portal_walk.specs.Walk.{SameWalk, sequences_left}
 use Rattle.pair_answer.proofs.EnteredTriangles.Walking.{MarksOver}
 use Rattle.pair_answer.proofs.entered_triangles.walks.walk_on.Given as goal
 
@@ -12,4 +12,4 @@ invariant-loop-walker l = record {
 }
 
 abbrev pub decreases-loop-walker : goal.decreases-loop-walker
-decreases-loop-walker l = remaining l.walker
+decreases-loop-walker l = sequences_left l.walker

@@ -1,5 +1,5 @@
 use Rattle.std.proofs.Common.{◌≡◌}
-use Rattle.portal_walk.specs.Walk.{remaining}
+use Rattle.portal_walk.specs.Walk.{sequences_left}
 use Rattle.portal_walk.proofs.EnoughBudget.Counting.{Counted}
 use Rattle.portal_walk.proofs.enough_budget.needs.count_sequences.Given as goal
 
@@ -13,4 +13,4 @@ invariant-loop-walker l = record {
 }
 
 abbrev pub decreases-loop-walker : goal.decreases-loop-walker
-decreases-loop-walker l = remaining l.walker
+decreases-loop-walker l = sequences_left l.walker

@@ -4,7 +4,7 @@ use Rattle.stab_hull.specs.declared.Passed.TheVariants.{Open as PassedOpen}
 use Rattle.portal_walk.specs.declared.path.Ways.TheVariants.{Both, Done}
 use Rattle.portal_walk.specs.declared.scene.Way.TheVariants as out
 use Rattle.portal_walk.specs.declared.step.Came.TheVariants as came
-use Rattle.portal_walk.specs.Frames.{AreDone, HasWay, PathParts, first_portals, with_ways, ways_left}
+use Rattle.portal_walk.specs.Frames.{HaveNoWays, HasWay, PathParts, first_portals, with_ways, ways_left}
 use Rattle.portal_walk.specs.Scene.{FindsWay}
 use Rattle.portal_walk.specs.Walk.{WalkParts, Tries, scene_of}
 use Rattle.portal_walk.proofs.Lists.{last_set}
@@ -84,7 +84,7 @@ invariant_of-self-in-Open c =
     let long : length s.path.frames ≡ length (slice_set s.path.frames (length s.path.frames - 1) (with_ways top Done)) = sym (length-set s.path.frames (length s.path.frames - 1) (with_ways top Done)) in
     let under = under_set s.path.frames top (with_ways top Done) i.under at refl in
     let passes = rw c.in-Open.is at c.in_ok-by_search.ensures.passes in
-    record { walk = way_walk s.scene s.roots.items s.root s.path s.nodes i top at out.Right Done refl less (Some c.args.number) finds c.args.number c.get.result.now refl c.get.ensures (record { edge = c.args.number; ways = Both; under = c.args.under }) refl refl (let u = (i.under (length s.path.frames - 1) top at).0 in omega (arith, u, long, e)) (subst (λ (n : ℕ). AreDone (slice_set s.path.frames (length s.path.frames - 1) (with_ways top Done)) n (length (slice_set s.path.frames (length s.path.frames - 1) (with_ways top Done)))) e (under_done (slice_set s.path.frames (length s.path.frames - 1) (with_ways top Done)) (with_ways top Done) under (last_set s.path.frames top (with_ways top Done) at) refl)) (subst (λ (n : ℕ). HasWay (slice_set s.path.frames (length s.path.frames - 1) (with_ways top Done)) n) e (under_right s.scene s.roots.items s.root s.path s.nodes i top at out.Right Done refl less)) c.len-count.result c.len-count.ensures c.by_search.new.self c.note_open.new.path c.note_open.new.nodes PassedOpen passes c.is_some-is_line.result c.is_some-is_line.ensures c.note_open.result c.note_open.ensures; ready = way_ready s.scene s.roots.items s.root s.path s.nodes i top at out.Right Done refl less (Some c.args.number) finds c.args.number c.get.result.now refl c.get.ensures (record { edge = c.args.number; ways = Both; under = c.args.under }) refl refl (let u = (i.under (length s.path.frames - 1) top at).0 in omega (arith, u, long, e)) (subst (λ (n : ℕ). AreDone (slice_set s.path.frames (length s.path.frames - 1) (with_ways top Done)) n (length (slice_set s.path.frames (length s.path.frames - 1) (with_ways top Done)))) e (under_done (slice_set s.path.frames (length s.path.frames - 1) (with_ways top Done)) (with_ways top Done) under (last_set s.path.frames top (with_ways top Done) at) refl)) (subst (λ (n : ℕ). HasWay (slice_set s.path.frames (length s.path.frames - 1) (with_ways top Done)) n) e (under_right s.scene s.roots.items s.root s.path s.nodes i top at out.Right Done refl less)) c.len-count.result c.len-count.ensures c.by_search.new.self c.note_open.new.path c.note_open.new.nodes PassedOpen passes c.is_some-is_line.result c.is_some-is_line.ensures c.self.invariant.ready (λ e same. absurd (open_not_stuck e same)) c.note_open.result c.note_open.ensures }
+    record { walk = way_walk s.scene s.roots.items s.root s.path s.nodes i top at out.Right Done refl less (Some c.args.number) finds c.args.number c.get.result.now refl c.get.ensures (record { edge = c.args.number; ways = Both; under = c.args.under }) refl refl (let u = (i.under (length s.path.frames - 1) top at).0 in omega (arith, u, long, e)) (subst (λ (n : ℕ). HaveNoWays (slice_set s.path.frames (length s.path.frames - 1) (with_ways top Done)) n (length (slice_set s.path.frames (length s.path.frames - 1) (with_ways top Done)))) e (under_done (slice_set s.path.frames (length s.path.frames - 1) (with_ways top Done)) (with_ways top Done) under (last_set s.path.frames top (with_ways top Done) at) refl)) (subst (λ (n : ℕ). HasWay (slice_set s.path.frames (length s.path.frames - 1) (with_ways top Done)) n) e (under_right s.scene s.roots.items s.root s.path s.nodes i top at out.Right Done refl less)) c.len-count.result c.len-count.ensures c.by_search.new.self c.note_open.new.path c.note_open.new.nodes PassedOpen passes c.is_some-is_line.result c.is_some-is_line.ensures c.note_open.result c.note_open.ensures; ready = way_ready s.scene s.roots.items s.root s.path s.nodes i top at out.Right Done refl less (Some c.args.number) finds c.args.number c.get.result.now refl c.get.ensures (record { edge = c.args.number; ways = Both; under = c.args.under }) refl refl (let u = (i.under (length s.path.frames - 1) top at).0 in omega (arith, u, long, e)) (subst (λ (n : ℕ). HaveNoWays (slice_set s.path.frames (length s.path.frames - 1) (with_ways top Done)) n (length (slice_set s.path.frames (length s.path.frames - 1) (with_ways top Done)))) e (under_done (slice_set s.path.frames (length s.path.frames - 1) (with_ways top Done)) (with_ways top Done) under (last_set s.path.frames top (with_ways top Done) at) refl)) (subst (λ (n : ℕ). HasWay (slice_set s.path.frames (length s.path.frames - 1) (with_ways top Done)) n) e (under_right s.scene s.roots.items s.root s.path s.nodes i top at out.Right Done refl less)) c.len-count.result c.len-count.ensures c.by_search.new.self c.note_open.new.path c.note_open.new.nodes PassedOpen passes c.is_some-is_line.result c.is_some-is_line.ensures c.self.invariant.ready (λ e same. absurd (open_not_stuck e same)) c.note_open.result c.note_open.ensures }
 
 pub returns-in-Open-clause-tries : goal.returns-in-Open-clause-tries
 returns-in-Open-clause-tries c =
@@ -98,7 +98,7 @@ returns-in-Open-clause-tries c =
     let long : length s.path.frames ≡ length (slice_set s.path.frames (length s.path.frames - 1) (with_ways top Done)) = sym (length-set s.path.frames (length s.path.frames - 1) (with_ways top Done)) in
     let under = under_set s.path.frames top (with_ways top Done) i.under at refl in
     let passes = rw c.in-Open.is at c.in_ok-by_search.ensures.passes in
-    subst (λ (w : WalkParts). Tries w (walk_over s.scene s.roots.items s.root c.note_open.new.path.frames c.note_open.new.path.ends c.note_open.new.nodes) c.note_open.result) c.self.view_is (way_noted s.scene s.roots.items s.root s.path s.nodes i top at out.Right Done refl less (Some c.args.number) finds c.args.number c.get.result.now refl c.get.ensures (record { edge = c.args.number; ways = Both; under = c.args.under }) refl refl (let u = (i.under (length s.path.frames - 1) top at).0 in omega (arith, u, long, e)) (subst (λ (n : ℕ). AreDone (slice_set s.path.frames (length s.path.frames - 1) (with_ways top Done)) n (length (slice_set s.path.frames (length s.path.frames - 1) (with_ways top Done)))) e (under_done (slice_set s.path.frames (length s.path.frames - 1) (with_ways top Done)) (with_ways top Done) under (last_set s.path.frames top (with_ways top Done) at) refl)) (subst (λ (n : ℕ). HasWay (slice_set s.path.frames (length s.path.frames - 1) (with_ways top Done)) n) e (under_right s.scene s.roots.items s.root s.path s.nodes i top at out.Right Done refl less)) c.len-count.result c.len-count.ensures c.by_search.new.self c.note_open.new.path c.note_open.new.nodes PassedOpen passes c.is_some-is_line.result c.is_some-is_line.ensures c.note_open.result c.note_open.ensures)
+    subst (λ (w : WalkParts). Tries w (walk_over s.scene s.roots.items s.root c.note_open.new.path.frames c.note_open.new.path.ends c.note_open.new.nodes) c.note_open.result) c.self.view_is (way_noted s.scene s.roots.items s.root s.path s.nodes i top at out.Right Done refl less (Some c.args.number) finds c.args.number c.get.result.now refl c.get.ensures (record { edge = c.args.number; ways = Both; under = c.args.under }) refl refl (let u = (i.under (length s.path.frames - 1) top at).0 in omega (arith, u, long, e)) (subst (λ (n : ℕ). HaveNoWays (slice_set s.path.frames (length s.path.frames - 1) (with_ways top Done)) n (length (slice_set s.path.frames (length s.path.frames - 1) (with_ways top Done)))) e (under_done (slice_set s.path.frames (length s.path.frames - 1) (with_ways top Done)) (with_ways top Done) under (last_set s.path.frames top (with_ways top Done) at) refl)) (subst (λ (n : ℕ). HasWay (slice_set s.path.frames (length s.path.frames - 1) (with_ways top Done)) n) e (under_right s.scene s.roots.items s.root s.path s.nodes i top at out.Right Done refl less)) c.len-count.result c.len-count.ensures c.by_search.new.self c.note_open.new.path c.note_open.new.nodes PassedOpen passes c.is_some-is_line.result c.is_some-is_line.ensures c.note_open.result c.note_open.ensures)
 
 pub returns-in_err-push_blocked-in-Stuck-clause-tries : goal.returns-in_err-push_blocked-in-Stuck-clause-tries
 returns-in_err-push_blocked-in-Stuck-clause-tries c =

@@ -4,7 +4,7 @@ use Rattle.sight_lift.specs.SequenceLaws.Ways.{root_alone}
 use Rattle.portal_walk.specs.declared.roots.Root.{Root}
 use Rattle.portal_walk.proofs.RootOrder.{all_reversed, alone_each}
 use Rattle.portal_walk.specs.Frames.{PathParts}
-use Rattle.portal_walk.specs.Roots.{roots_in, side_of}
+use Rattle.portal_walk.specs.Roots.{roots_in, side_of_root}
 use Rattle.portal_walk.specs.Scene.{SceneParts}
 use Rattle.portal_walk.specs.Sides.{IsRootOf}
 use Rattle.portal_walk.specs.Walk.{IsWalk}
@@ -29,4 +29,4 @@ invariant_of-result c =
 pub returns-clause-pending : goal.returns-clause-pending
 returns-clause-pending c =
     let is = c.in_ok-roots.ensures ∙ ap (λ (xs : List (List Root)). reverse (roots_in xs c.args.source)) c.roots.ensures in
-    alone_each (reverse c.in_ok-roots.roots.items) ∙ ap (λ (rs : List Root). map root_alone (map side_of rs)) (ap reverse is ∙ reverse-reverse (roots_in c.args.terrain.now.roots c.args.source)) ∙ ap (map root_alone) (c.requires.terrain.roots.order c.args.source c.requires.source)
+    alone_each (reverse c.in_ok-roots.roots.items) ∙ ap (λ (rs : List Root). map root_alone (map side_of_root rs)) (ap reverse is ∙ reverse-reverse (roots_in c.args.terrain.now.roots c.args.source)) ∙ ap (map root_alone) (c.requires.terrain.roots.order c.args.source c.requires.source)

@@ -1,7 +1,7 @@
 use Rattle.std.proofs.Common.{◌≡◌, ◌-◌, ◌≤◌, ℕ, List, [], ◌∷◌, ◌++◌, Option, drop, length}
 use Rattle.listeners.specs.Listening.{listener_text}
 use Rattle.shelf_io.specs.Shelf.{BeginsAmong, Files, NoneFell, SameCounts}
-use Rattle.sight_run.specs.OutputPieces.UnderWay.{IsUnderWay}
+use Rattle.sight_run.specs.OutputPieces.UnderWay.{IsStoring}
 use Rattle.sight_run.proofs.output_pieces.report.put_text.Given as goal
 
 -- what the text has behind a place is still to come
@@ -10,7 +10,7 @@ invariant-loop-piece g l =
     let state = g.S.Shelf.state in
     let text = listener_text ((goal.Listener-dyn g (l.listener.vtable, l.listener.value)).listener_state l.listener.value) in
     record {
-      way : (before : Option Files) (all rest : List ℕ) → IsUnderWay before (state l.fn.shelf).files l.name all (text ++ rest) → IsUnderWay before (state l.shelf).files l.name all (drop l.at text ++ rest);
+      way : (before : Option Files) (all rest : List ℕ) → IsStoring before (state l.fn.shelf).files l.name all (text ++ rest) → IsStoring before (state l.shelf).files l.name all (drop l.at text ++ rest);
       within : l.at ≤ length text;
       room : length l.piece ≡ 65536;
       begun : BeginsAmong (state l.fn.shelf).begun (state l.shelf).begun (l.name ∷ []);

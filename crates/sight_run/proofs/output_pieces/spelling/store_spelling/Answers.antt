@@ -2,7 +2,7 @@ use Rattle.std.proofs.Common.{rules, sym, subst, take, List, ℕ}
 use Rattle.std.proofs.lemmas.Result.{err_from_is_err_and}
 use Rattle.certificates.specs.Grammar.{spelling}
 use Rattle.shelf_io.proofs.BegunLemmas.{among_then}
-use Rattle.sight_run.specs.OutputPieces.UnderWay.{IsUnderWay}
+use Rattle.sight_run.specs.OutputPieces.UnderWay.{IsStoring}
 use Rattle.sight_run.proofs.OutputPieces.OnWay.{all_put, begun, piece_failed, piece_put}
 use Rattle.certificates.proofs.OneSpelling.{spelled_is}
 use Rattle.sight_run.proofs.output_pieces.spelling.store_spelling.Goals as goal
@@ -14,7 +14,7 @@ loop-printer-init g c =
     let now = (state c.create.new.self).files in
     let all = spelling c.args.cert.now in
     record {
-      way = subst (λ (t : List ℕ). IsUnderWay before now c.args.name.now all t) (sym (spelled_is c.args.cert.now _ c.printer-printer.ensures)) (begun before now c.args.name.now all c.in_ok-create.ensures.made);
+      way = subst (λ (t : List ℕ). IsStoring before now c.args.name.now all t) (sym (spelled_is c.args.cert.now _ c.printer-printer.ensures)) (begun before now c.args.name.now all c.in_ok-create.ensures.made);
       room = search rules;
       begun = c.in_ok-create.ensures.begun;
       counts = search rules;

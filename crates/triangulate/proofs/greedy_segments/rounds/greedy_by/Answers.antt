@@ -7,7 +7,7 @@ use Rattle.sight_names.proofs.PlanNumbers.{count_of_plan}
 use Rattle.triangulate.specs.declared.greedy_segments.rounds.PointPair.{PointPair}
 use Rattle.triangulate.specs.IncidentSegments.Incident.{AreSegments}
 use Rattle.triangulate.specs.IncidentSegments.Kept.{edges_of}
-use Rattle.triangulate.specs.GreedySegments.Pairs.{AreInOrder}
+use Rattle.triangulate.specs.GreedySegments.Pairs.{ArePointPairsInOrder}
 use Rattle.triangulate.specs.GreedySegments.Rounds.{AreUncrossed, IsGreedySoFar, IsShorter, IsSaturated, KeepsClear}
 use Rattle.triangulate.proofs.IncidentSegments.KeptEdges.{edges_of_segments}
 use Rattle.triangulate.proofs.GreedySegments.SoFar.{greedy_at_first, greedy_at_last, round_done, still_shut}
@@ -32,7 +32,7 @@ keep_clear_pairs-requires-clause-pairs g c = λ p k.
     (c.in_ok-pairs.ensures.each p (Contains-permutation _ _ p (IsPermutation-sym _ _ c.sort_pairs.ensures.same) (subst (λ (ps : List PointPair). Contains ps p) c.as_slice-in-loop-low.ensures.value k))).pair
 
 pub keep_clear_pairs-requires-clause-order : goal.keep_clear_pairs-requires-clause-order
-keep_clear_pairs-requires-clause-order g c = subst AreInOrder (sym c.as_slice-in-loop-low.ensures.value) c.sort_pairs.ensures.order
+keep_clear_pairs-requires-clause-order g c = subst ArePointPairsInOrder (sym c.as_slice-in-loop-low.ensures.value) c.sort_pairs.ensures.order
 
 rises : (low high : ℕ) → ((low ≡ 0) × (high ≡ 64)) ⊎ ((high ≡ low + low / 2) × (2 ≤ low) × (low ≤ 201326594)) → low * low ≤ high * high
 rises low high b = let h : low ≤ high = elim b [ inl k ↦ (let e = k.0 in omega arith) | inr k ↦ (let e = k.0 in omega arith) ] in mul-le-mul h h

@@ -4,7 +4,7 @@ use Rattle.sight_names.specs.declared.names.Triangle.{Triangle}
 use Rattle.sight_names.specs.Map.{map_of}
 use Rattle.sight_names.specs.Plan.{PlanParts}
 use Rattle.gate_floods.specs.declared.gate_masks.masks.Row.{Row}
-use Rattle.cert_checker.specs.TreeJudge.Roots.{AreRoots}
+use Rattle.cert_checker.specs.TreeJudge.Roots.{AreRootChains}
 use Rattle.cert_format.specs.Accepted.{triangles_of, labels_of}
 use Rattle.certificates.specs.CertExact.Grammar.{as_two}
 use Rattle.gate_floods.specs.RowJudge.Masks.{MaskRows}
@@ -27,7 +27,7 @@ returns-clause-ground c = λ cert over same.
     record {
       over = record { plan = over.plan; sectors = over.sectors; triangles = refl; good = over.good; edges = over.edges };
       count = size;
-      roots = subst (λ (us : List Triangle). AreRoots (map_of p) us xs c.in_ok-roots.roots.roots.items c.in_ok-roots.roots.first.items) over.triangles c.in_ok-roots.ensures;
+      roots = subst (λ (us : List Triangle). AreRootChains (map_of p) us xs c.in_ok-roots.roots.roots.items c.in_ok-roots.roots.first.items) over.triangles c.in_ok-roots.ensures;
       masks = edge_masks_are p over.plan ts ls over.good xs over.edges (as_two cert).cert c.as_slice-2.result.now second kept.width c.in_ok-masks.ensures.room kept.places.items kept.words.items c.in_ok-masks.ensures.masks ms refl refl refl;
       components = c.in_ok-components.ensures.components;
       knows = record { ranks = c.in_ok-ranks.ensures.ranks cert.rays first; joined = rows };

@@ -3,7 +3,7 @@ use Rattle.std.specs.Prelude.{MatchOption}
 use Rattle.sight_names.specs.declared.faults.CertFault.{CertFault}
 use Rattle.certificates.specs.declared.exact_parts.part.Part.{Part}
 use Rattle.certificates.specs.ExactParts.Left.{parts_left, put_before}
-use Rattle.any_judge.specs.ExactJudge.Intake.{AreRefused, IsGoingOn}
+use Rattle.any_judge.specs.ExactJudge.Intake.{AreRefusedExact, IsGoingOn}
 use Rattle.any_judge.proofs.ExactJudge.Intakes.{all_taken, fault_taken, part_taken}
 use Rattle.any_judge.proofs.exact_judge.intake.Intake.take_one.Goals as goal
 
@@ -29,4 +29,4 @@ returns-in-Ok-None-default-clause-all c = λ p t bytes w none.
     let new = record c.take_nodes.new.self { reader = c.next.new.self } in
     let on : IsGoingOn p t bytes [] new = all_taken p t bytes ahead.rest.now c.take_nodes.new.self (ahead.ensures.heard p t bytes w) x.field-0-1.now new
     (λ more. x.ensures.part ahead.ensures.countable more ∙ ap (λ (o : Option Part). put_before o (parts_left c.next.new.self (x.field-0-1.now ++ more))) x.field-0-0-is) (x.ensures.used x.field-0-0-is) (x.ensures.given ahead.ensures.countable) refl in
-    subst (λ (o : Option CertFault). MatchOption o (IsGoingOn p t bytes [] new) (AreRefused p bytes)) (sym (c.take_nodes.ensures.still ∙ c.requires.on)) on
+    subst (λ (o : Option CertFault). MatchOption o (IsGoingOn p t bytes [] new) (AreRefusedExact p bytes)) (sym (c.take_nodes.ensures.still ∙ c.requires.on)) on

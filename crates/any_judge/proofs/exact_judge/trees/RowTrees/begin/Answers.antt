@@ -1,7 +1,7 @@
 use Rattle.std.proofs.Common.{◌+◌, [], true, refl, sym, ◌∙◌, subst, arith}
 use Rattle.math_base.proofs.Options.{none_where_not_some}
 use Rattle.gate_floods.specs.RowJudge.Masks.{MaskRows}
-use Rattle.gate_floods.specs.RowJudge.Judged.{tree_of, IsWalked}
+use Rattle.gate_floods.specs.RowJudge.Judged.{tree_with, IsTreeWalkedInRow}
 use Rattle.any_judge.specs.ExactJudge.Trees.{all_begun}
 use Rattle.any_judge.proofs.ExactJudge.Begun.{counted_none}
 use Rattle.any_judge.proofs.ExactJudge.Walked.{own_row, wrong_begins, ended_where, tree_begins, all_there}
@@ -40,6 +40,6 @@ returns-clause-heard c = λ b w.
           let row = c.as_slice-4.result.now in
           let own = own_row g s.begun c.as_slice.result.now c.as_slice-2.result.now c.in_ok-row.row.items row c.as_slice-3.result.now c.as_slice.ensures.value c.as_slice-2.ensures.value c.as_slice-3.ensures.value c.as_slice-4.ensures.value c.in_ok-row.ensures.bits in
           let same = c.mask_rows-masks.ensures in
-          let walked = subst (λ (ms : MaskRows). IsWalked g.edges ms row g.roots.roots.items g.roots.first.items (tree_of s.begun []) c.begin.new.self) same c.in_ok-begin.ensures in
+          let walked = subst (λ (ms : MaskRows). IsTreeWalkedInRow g.edges ms row g.roots.roots.items g.roots.first.items (tree_with s.begun []) c.begin.new.self) same c.in_ok-begin.ensures in
           tree_begins b s (record s { walk = c.begin.new.self; begun = s.begun + 1; under_way = true; source = s.begun; nodes = 0 }) row e refl refl refl refl refl (none_where_not_some s.wrong (sym fine)) own walked;
     }

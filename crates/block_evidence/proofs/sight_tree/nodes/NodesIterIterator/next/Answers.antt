@@ -1,15 +1,15 @@
 use Rattle.std.proofs.Common.{rules, ◌≡◌, ℕ, ◌*◌, ◌∷◌, List, ap, ◌∙◌, subst, sym, arith, length, take, drop, refl}
 use Rattle.block_evidence.specs.declared.sight_tree.Node.{Node}
-use Rattle.block_evidence.specs.SightTree.Spelling.{SpellNodes, nodes_of, first_node}
+use Rattle.block_evidence.specs.SightTree.Spelling.{SpellNodes, nodes_in_bytes, first_node}
 use Rattle.block_evidence.proofs.SightTree.ReadBack.{IsFirstTaken, first_taken}
 use Rattle.block_evidence.proofs.sight_tree.nodes.NodesIterIterator.next.Goals as goal
 
-taken_first : (bytes rest : List ℕ) (k : ℕ) → SpellNodes bytes (nodes_of bytes) → bytes ≡ k ∷ rest → IsFirstTaken k rest (nodes_of bytes)
-taken_first bytes rest k s parts = first_taken k rest (nodes_of bytes) (subst (λ (bs : List ℕ). SpellNodes bs (nodes_of bytes)) parts s)
+taken_first : (bytes rest : List ℕ) (k : ℕ) → SpellNodes bytes (nodes_in_bytes bytes) → bytes ≡ k ∷ rest → IsFirstTaken k rest (nodes_in_bytes bytes)
+taken_first bytes rest k s parts = first_taken k rest (nodes_in_bytes bytes) (subst (λ (bs : List ℕ). SpellNodes bs (nodes_in_bytes bytes)) parts s)
 
 -- what was left is the node and what is left behind it
-step : (left : List Node) (bytes rest front back : List ℕ) (k : ℕ) (n : Node) → nodes_of bytes ≡ left → IsFirstTaken k rest (nodes_of bytes) → n ≡ first_node k front → front ≡ take (2 * k) rest → back ≡ drop (2 * k) rest
-    → left ≡ n ∷ nodes_of back
+step : (left : List Node) (bytes rest front back : List ℕ) (k : ℕ) (n : Node) → nodes_in_bytes bytes ≡ left → IsFirstTaken k rest (nodes_in_bytes bytes) → n ≡ first_node k front → front ≡ take (2 * k) rest → back ≡ drop (2 * k) rest
+    → left ≡ n ∷ nodes_in_bytes back
 step left bytes rest front back k n is t first p q = sym is ∙ t.nodes ∙ rw (first, p, q) refl
 
 pub split_at-requires : goal.split_at-requires
@@ -27,7 +27,7 @@ returns-clause-steps c =
 pub returns-clause-goes : goal.returns-clause-goes
 returns-clause-goes c =
     let t = taken_first c.self.inside.bytes.now c.in_ok-kind.rest.now c.in_ok-kind.kind.now c.self.invariant (search rules) in
-    let h : c.args.self.now ≡ c.node_of.result ∷ nodes_of c.split_at.result.1.now =
+    let h : c.args.self.now ≡ c.node_of.result ∷ nodes_in_bytes c.split_at.result.1.now =
     step c.args.self.now c.self.inside.bytes.now c.in_ok-kind.rest.now c.split_at.result.0.now c.split_at.result.1.now c.in_ok-kind.kind.now c.node_of.result c.self.view_is t
     (c.node_of.ensures c.in_ok-kind.kind.now t.most c.split_at.ensures.front_len) c.split_at.ensures.front c.split_at.ensures.back in
     record { on = λ _. (tt, tt, omega (arith, ap length h)); keeps = tt; rests = λ _. tt }

@@ -1,6 +1,6 @@
 use Rattle.std.proofs.Common.{◌≡◌, ◌≢◌, ◌<◌, ◌⊎◌, ℕ, List, [], length, vec_len, false, Ok, inl, inr, sym, subst, ◌∙◌, arith}
 use Rattle.std.proofs.lemmas.Bool.{eqb-true, eqb-false}
-use Rattle.cert_format.specs.Reading.{Fails}
+use Rattle.cert_format.specs.Reading.{FailsCert}
 use Rattle.certificates.specs.declared.exact_parts.awaited.Awaited.{Awaited}
 use Rattle.certificates.specs.ExactParts.Left.{TreesLeft, ReaderState, parts_left}
 use Rattle.certificates.specs.declared.exact_parts.part.Part.{Part}
@@ -27,8 +27,8 @@ returns-in-Err-clause-fault c =
       | else-is_done-via-then-is_done+else-is_empty w ↦ inr (let some : vec_len i.kept ≢ 0 = eqb-false _ _ (sym w.is_empty.ensures ∙ w.if-is_empty.false) in omega (arith, some, count))
       | else-is_done-via-else-is_done w ↦ inl (sym c.is_done.ensures ∙ w.if-is_done.false)
     ] in
-    let read : Fails c.in-Err.fault (first_at i.awaited i.trees i.given i.kept.items) = subst (λ (t : List ℕ). Fails c.in-Err.fault (first_at i.awaited i.trees i.given t)) c.as_slice.ensures.value c.in-Err.ensures.read in
-    subst (λ (v : ReaderState). Fails c.in-Err.fault (parts_left v [])) c.self.view_is (end_fails (state i.awaited i.trees i.given i.kept.items) c.in-Err.fault owed c.self.invariant.0 read)
+    let read : FailsCert c.in-Err.fault (first_at i.awaited i.trees i.given i.kept.items) = subst (λ (t : List ℕ). FailsCert c.in-Err.fault (first_at i.awaited i.trees i.given t)) c.as_slice.ensures.value c.in-Err.ensures.read in
+    subst (λ (v : ReaderState). FailsCert c.in-Err.fault (parts_left v [])) c.self.view_is (end_fails (state i.awaited i.trees i.given i.kept.items) c.in-Err.fault owed c.self.invariant.0 read)
 
 pub returns-clause-whole : goal.returns-clause-whole
 returns-clause-whole c =

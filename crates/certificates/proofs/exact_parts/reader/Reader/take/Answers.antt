@@ -1,6 +1,6 @@
 use Rattle.std.proofs.Common.{◌≡◌, ◌<◌, ◌+◌, ◌++◌, ℕ, List, [], length, Some, sym, ap, subst, arith}
 use Rattle.std.specs.Prelude.{IfOk, IfErr}
-use Rattle.cert_format.specs.Reading.{Fails}
+use Rattle.cert_format.specs.Reading.{FailsCert}
 use Rattle.certificates.specs.declared.exact_parts.awaited.Awaited.{Awaited}
 use Rattle.certificates.specs.ExactParts.Left.{TreesLeft, ReaderState, parts_left, put_before}
 use Rattle.certificates.specs.ExactParts.Steps.{width_at}
@@ -40,5 +40,5 @@ returns-clause-fault c = λ le.
     let new = state n.awaited n.trees c.saturating_add-total.result c.clear.new.self.items in
     let total : c.saturating_add-total.result ≡ i.given + length front = omega (arith, c.saturating_add-total.ensures, ap (λ (v : ReaderState). v.given) c.self.view_is, le) in
     let wide = subst (λ (v : ReaderState). width_at v.awaited v.trees (v.kept ++ front) ≡ length (v.kept ++ front)) (sym c.self.view_is) c.requires in
-    subst (λ (v : ReaderState). IfErr c.take_record-taken.result (λ f. (more : List ℕ) → Fails f (parts_left v (front ++ more)))) c.self.view_is
+    subst (λ (v : ReaderState). IfErr c.take_record-taken.result (λ f. (more : List ℕ) → FailsCert f (parts_left v (front ++ more)))) c.self.view_is
     (taken_fault s new front c.saturating_add-total.result c.self.invariant.1 total wide c.take_record-taken.result c.take_record-taken.ensures.read)

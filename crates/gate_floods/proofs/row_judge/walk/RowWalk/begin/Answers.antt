@@ -1,7 +1,7 @@
 use Rattle.std.proofs.Common.{◌≡◌, ℕ, List, length, refl, ◌∙◌, ap, subst, arith}
 use Rattle.std.proofs.lemmas.List.{take_all}
 use Rattle.cert_checker.specs.TreeJudge.Roots.{first_at}
-use Rattle.gate_floods.specs.RowJudge.Words.{row_at}
+use Rattle.gate_floods.specs.RowJudge.Words.{row_in_words}
 use Rattle.gate_floods.specs.RowJudge.Path.{StandsBefore}
 use Rattle.gate_floods.proofs.RowJudge.Walking.{walk_begun}
 use Rattle.gate_floods.specs.RowJudge.Masks.{rows_of}
@@ -17,6 +17,6 @@ returns c =
     let path = c.args.self.now.path.items in
     let long : length rows ≡ length row = ap (λ (us : List ℕ). length us) c.in_ok-put_first.ensures in
     walk_begun c.args.terrain.now.edges.now ms row roots firsts _ c.args.source refl
-    (ap (λ (us : List ℕ). row_at us ms.width 0) c.in_ok-put_first.ensures ∙ take_all ms.width row (omega (arith, c.requires)))
+    (ap (λ (us : List ℕ). row_in_words us ms.width 0) c.in_ok-put_first.ensures ∙ take_all ms.width row (omega (arith, c.requires)))
     (omega (arith, long, c.requires))
     (subst (λ (us : List ℕ). StandsBefore ms row roots (first_at firsts c.args.source) path us c.start-self.new.waits.items c.start-self.result) c.as_slice.ensures.value (c.start-self.ensures row path))

@@ -2,7 +2,7 @@ use Rattle.std.proofs.Common.{◌≡◌, List, Vec, Global, subst, sym}
 use Rattle.std.specs.Prelude.{flat_map}
 use Rattle.std.proofs.lemmas.Result.{IfOk-weaker}
 use Rattle.sight_names.specs.Map.{map_of}
-use Rattle.task_crew.specs.Done.{AreDone}
+use Rattle.task_crew.specs.Done.{AreTasksDone}
 use Rattle.triangulate.specs.declared.greedy_segments.rounds.PointPair.{PointPair}
 use Rattle.triangulate.specs.IncidentSegments.Kept.{edges_of}
 use Rattle.triangulate.specs.GreedySegments.Rounds.{AreUncrossed}
@@ -16,5 +16,5 @@ returns g c =
     let numbers = c.args.unsaturated.now in
     IfOk-weaker c.joined.result (λ v. v.items ≡ flat_map (λ (p : Vec PointPair Global). p.items) c.as_slice.result.now) (λ v. AreUncrossed m kept numbers c.args.low c.args.high v.items)
     (λ v e. subst (AreUncrossed m kept numbers c.args.low c.args.high) (sym e) (pairs_joined (λ (p : Vec PointPair Global). p.items) m kept numbers c.args.low c.args.high c.parts_of-count.result c.as_slice.result.now c.parts_of-count.ensures.enough
-    (subst (λ (ps : List (Vec PointPair Global)). AreDone (IsPairPart (λ (p : Vec PointPair Global). p.items) m kept numbers c.args.low c.args.high) c.parts_of-count.result ps) (sym c.as_slice.ensures.value) c.in_ok-parts.ensures)))
+    (subst (λ (ps : List (Vec PointPair Global)). AreTasksDone (IsPairPart (λ (p : Vec PointPair Global). p.items) m kept numbers c.args.low c.args.high) c.parts_of-count.result ps) (sym c.as_slice.ensures.value) c.in_ok-parts.ensures)))
     c.joined.ensures
